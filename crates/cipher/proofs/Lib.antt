@@ -1,0 +1,7 @@
+-- Laws that belong to no one function.
+pub mod Table
+pub mod Inverse
+pub mod Packed
+pub mod Rounds
+pub mod Schedule
+pub mod Vectors

@@ -1,0 +1,292 @@
+// AES-128 of FIPS 197: the key expansion, and the encryption of one block.
+//
+// A state is its four columns of four bytes and passes by value through each round, as the 176 bytes of the key schedule do.
+// A leaf inside a round is lent the schedule, and the S-box table wherever it is used: that spares their copies.
+mod sbox;
+
+use sbox::s_box;
+ghost use mathlib.Core.Path.{_≡_};
+ghost use mathlib.Core.List.{_++_};
+ghost use Prim.Native.Nat.{_+_, _*_, _<_, _≤_};
+ghost use lib.ListN.{length, take, drop};
+ghost use Rattle.cipher.specs.Field.{xtime};
+ghost use Rattle.cipher.specs.Cipher.{IsSBox, sBox, byte, four, word, xorWord, fromBlock, toBlock, subBytes, shiftRows, mixByte, mixColumns, addRoundKey, cipher};
+ghost use Rattle.cipher.specs.KeyExpansion.{rotWord, subWord, powerOfTwo, rcon, nextWord, keyExpansion};
+ghost use Rattle.cipher.specs.Packed.{bytesOf};
+
+// Words
+
+fn xor_word(a: [u8; 4], b: [u8; 4]) -> [u8; 4]
+    ensures { λ r. ⌜ r ≡ xorWord a b ⌝ }
+{
+    [a[0] ^ b[0], a[1] ^ b[1], a[2] ^ b[2], a[3] ^ b[3]]
+}
+
+fn rot_word(w: [u8; 4]) -> [u8; 4]
+    ensures { λ r. ⌜ r ≡ rotWord w ⌝ }
+{
+    [w[1], w[2], w[3], w[0]]
+}
+
+fn sub_byte(t: &[u8; 256], x: u8) -> u8
+    requires { ⌜ IsSBox (now t) ⌝ }
+    ensures { λ r. ⌜ r ≡ sBox x ⌝ }
+{
+    t[x as usize]
+}
+
+fn sub_word(t: &[u8; 256], w: [u8; 4]) -> [u8; 4]
+    requires { ⌜ IsSBox (now t) ⌝ }
+    ensures { λ r. ⌜ r ≡ subWord w ⌝ }
+{
+    [
+        sub_byte(t, w[0]),
+        sub_byte(t, w[1]),
+        sub_byte(t, w[2]),
+        sub_byte(t, w[3]),
+    ]
+}
+
+// Word i of a key schedule.
+fn word_at(w: &[u8; 176], i: usize) -> [u8; 4]
+    requires { ⌜ i < 44 ⌝ }
+    ensures { λ r. ⌜ r ≡ word (now (w .entry)) i ⌝ }
+{
+    let at = i * 4;
+    [w[at], w[at + 1], w[at + 2], w[at + 3]]
+}
+
+// The state (3.4)
+
+fn from_block(b: [u8; 16]) -> [[u8; 4]; 4]
+    ensures { λ r. ⌜ r ≡ fromBlock b ⌝ }
+{
+    [
+        [b[0], b[1], b[2], b[3]],
+        [b[4], b[5], b[6], b[7]],
+        [b[8], b[9], b[10], b[11]],
+        [b[12], b[13], b[14], b[15]],
+    ]
+}
+
+fn to_block(s: [[u8; 4]; 4]) -> [u8; 16]
+    ensures { λ r. ⌜ r ≡ toBlock s ⌝ }
+{
+    [
+        s[0][0],
+        s[0][1],
+        s[0][2],
+        s[0][3],
+        s[1][0],
+        s[1][1],
+        s[1][2],
+        s[1][3],
+        s[2][0],
+        s[2][1],
+        s[2][2],
+        s[2][3],
+        s[3][0],
+        s[3][1],
+        s[3][2],
+        s[3][3],
+    ]
+}
+
+// SubBytes (5.1.1)
+fn sub_bytes(t: &[u8; 256], s: [[u8; 4]; 4]) -> [[u8; 4]; 4]
+    requires { ⌜ IsSBox (now t) ⌝ }
+    ensures { λ r. ⌜ r ≡ subBytes s ⌝ }
+{
+    [
+        sub_word(t, s[0]),
+        sub_word(t, s[1]),
+        sub_word(t, s[2]),
+        sub_word(t, s[3]),
+    ]
+}
+
+// ShiftRows (5.1.2)
+fn shift_rows(s: [[u8; 4]; 4]) -> [[u8; 4]; 4]
+    ensures { λ r. ⌜ r ≡ shiftRows s ⌝ }
+{
+    [
+        [s[0][0], s[1][1], s[2][2], s[3][3]],
+        [s[1][0], s[2][1], s[3][2], s[0][3]],
+        [s[2][0], s[3][1], s[0][2], s[1][3]],
+        [s[3][0], s[0][1], s[1][2], s[2][3]],
+    ]
+}
+
+// MixColumns (5.1.3), four bytes at a time: byte r of a column is the r-th from below of a u32.
+
+fn pack(w: [u8; 4]) -> u32
+    ensures { λ r. ⌜ bytesOf r ≡ four (byte w) ⌝ }
+{
+    wide(w[0]) + wide(w[1]) * 256 + wide(w[2]) * 65536 + wide(w[3]) * 16777216
+}
+
+fn wide(b: u8) -> u32
+    ensures { λ r. ⌜ (r ≡ b) × (b < 256) ⌝ }
+{
+    b as u32
+}
+
+fn unpack(p: u32) -> [u8; 4]
+    ensures { λ r. ⌜ r ≡ bytesOf p ⌝ }
+{
+    [
+        (p % 256) as u8,
+        (p / 256 % 256) as u8,
+        (p / 65536 % 256) as u8,
+        (p / 16777216 % 256) as u8,
+    ]
+}
+
+// Each byte times {02}: `high` has the top bit of each.
+fn xtime_each(p: u32) -> u32
+    ensures { λ r. ⌜ bytesOf r ≡ four (λ i. xtime (byte (bytesOf p) i)) ⌝ }
+{
+    let high = p & 0x80808080;
+    (p - high) * 2 ^ high / 128 * 0x1b
+}
+
+// Byte r + 1 in the place of byte r.
+fn rotate(p: u32) -> u32
+    ensures { λ r. ⌜ bytesOf r ≡ rotWord (bytesOf p) ⌝ }
+{
+    p / 256 + p % 256 * 16777216
+}
+
+fn mix_column(w: [u8; 4]) -> [u8; 4]
+    ensures { λ r. ⌜ r ≡ four (mixByte w) ⌝ }
+{
+    let one = pack(w);
+    let two = xtime_each(one);
+    let past = rotate(rotate(one));
+    unpack(two ^ rotate(one ^ two) ^ past ^ rotate(past))
+}
+
+fn mix_columns(s: [[u8; 4]; 4]) -> [[u8; 4]; 4]
+    ensures { λ r. ⌜ r ≡ mixColumns s ⌝ }
+{
+    [
+        mix_column(s[0]),
+        mix_column(s[1]),
+        mix_column(s[2]),
+        mix_column(s[3]),
+    ]
+}
+
+// AddRoundKey (5.1.4)
+
+fn add_word(c: [u8; 4], w: &[u8; 176], i: usize) -> [u8; 4]
+    requires { ⌜ i < 44 ⌝ }
+    ensures { λ r. ⌜ r ≡ xorWord c (word (now (w .entry)) i) ⌝ }
+{
+    xor_word(c, word_at(w, i))
+}
+
+fn add_round_key(s: [[u8; 4]; 4], w: &[u8; 176], n: usize) -> [[u8; 4]; 4]
+    requires { ⌜ n ≤ 10 ⌝ }
+    ensures { λ r. ⌜ r ≡ addRoundKey (now (w .entry)) n s ⌝ }
+{
+    let i = n * 4;
+    [
+        add_word(s[0], w, i),
+        add_word(s[1], w, i + 1),
+        add_word(s[2], w, i + 2),
+        add_word(s[3], w, i + 3),
+    ]
+}
+
+// Cipher (5.1)
+
+fn round(s: [[u8; 4]; 4], round_keys: [u8; 176], t: &[u8; 256], n: usize) -> [[u8; 4]; 4]
+    requires { ⌜ IsSBox (now t) × (n ≤ 10) ⌝ }
+    ensures { λ r. ⌜ r ≡ addRoundKey «round_keys» n (mixColumns (shiftRows (subBytes s))) ⌝ }
+{
+    add_round_key(mix_columns(shift_rows(sub_bytes(t, s))), &round_keys, n)
+}
+
+fn last_round(s: [[u8; 4]; 4], round_keys: [u8; 176], t: &[u8; 256]) -> [[u8; 4]; 4]
+    requires { ⌜ IsSBox (now t) ⌝ }
+    ensures { λ r. ⌜ r ≡ addRoundKey «round_keys» 10 (shiftRows (subBytes s)) ⌝ }
+{
+    add_round_key(shift_rows(sub_bytes(t, s)), &round_keys, 10)
+}
+
+pub fn encrypt(round_keys: [u8; 176], block: [u8; 16]) -> [u8; 16]
+    ensures { λ r. ⌜ r ≡ cipher «round_keys» block ⌝ }
+{
+    let t = s_box();
+    let mut s = add_round_key(from_block(block), &round_keys, 0);
+    let mut n: usize = 0;
+    while n < 9 {
+        n += 1;
+        let next = round(s, round_keys, &t, n);
+        s = next;
+    }
+    to_block(last_round(s, round_keys, &t))
+}
+
+// KeyExpansion (5.2)
+
+const RCON: [u8; 10] = [0x01, 0x02, 0x04, 0x08, 0x10, 0x20, 0x40, 0x80, 0x1b, 0x36];
+
+fn round_constant(i: usize) -> [u8; 4]
+    requires { ⌜ (1 ≤ i) × (i ≤ 10) ⌝ }
+    ensures { λ r. ⌜ r ≡ rcon i ⌝ }
+{
+    [RCON[i - 1], 0, 0, 0]
+}
+
+// What every fourth word adds in the place of the word before it.
+fn key_core(t: &[u8; 256], w: [u8; 4], i: usize) -> [u8; 4]
+    requires { ⌜ IsSBox (now t) × (1 ≤ i) × (i ≤ 10) ⌝ }
+    ensures { λ r. ⌜ r ≡ xorWord (subWord (rotWord w)) (rcon i) ⌝ }
+{
+    xor_word(sub_word(t, rot_word(w)), round_constant(i))
+}
+
+fn next_word<'a>(t: &'a [u8; 256], w: &'a [u8; 176], i: usize) -> [u8; 4]
+    requires { ⌜ IsSBox (now t) × (4 ≤ i) × (i < 44) ⌝ }
+    ensures { λ r. ⌜ r ≡ nextWord (now (w .entry)) i ⌝ }
+{
+    let before = word_at(w, i - 1);
+    if i % 4 == 0 {
+        xor_word(word_at(w, i - 4), key_core(t, before, i / 4))
+    } else {
+        xor_word(word_at(w, i - 4), before)
+    }
+}
+
+fn put_word(w: &mut [u8; 176], i: usize, x: [u8; 4])
+    requires { ⌜ (i < 44) × (length (now w) ≡ 176) ⌝ }
+    ensures { λ _. ⌜ now (w .exit) ≡ take (i * 4) (now (w .entry)) ++ four (byte x) ++ drop (i * 4 + 4) (now (w .entry)) ⌝ }
+{
+    let at = i * 4;
+    w[at] = x[0];
+    w[at + 1] = x[1];
+    w[at + 2] = x[2];
+    w[at + 3] = x[3];
+}
+
+pub fn expand_key(key: [u8; 16]) -> [u8; 176]
+    ensures { λ r. ⌜ r ≡ keyExpansion key ⌝ }
+{
+    let t = s_box();
+    let mut w = [0u8; 176];
+    let mut k: usize = 0;
+    while k < 16 {
+        w[k] = key[k];
+        k += 1;
+    }
+    let mut n: usize = 0;
+    while n < 40 {
+        let i = n + 4;
+        let x = next_word(&t, &w, i);
+        put_word(&mut w, i, x);
+        n += 1;
+    }
+    w
+}
