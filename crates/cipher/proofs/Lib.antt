@@ -1,6 +1,7 @@
 -- Laws that belong to no one function.
 pub mod Table
 pub mod Inverse
+pub mod Xor
 pub mod Packed
 pub mod Rounds
 pub mod Schedule

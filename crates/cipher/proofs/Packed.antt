@@ -1,15 +1,16 @@
 -- Four bytes in one number: what sums of bytes, xtime and a rotation are there.
 -- Assumes nothing.
-use mathlib.Core.Path.{_≡_, refl, ap, ap₂, _∙_}
-use mathlib.Core.List.{List, [], _∷_}
+use mathlib.Core.Path.{_≡_, ap, ap₂, sym, _∙_}
+use mathlib.Core.List.{[], _∷_}
 use Prim.Native.Nat.{ℕ, _+_, _-_, _*_, _/_, _%_, _≤_, _<_, _^_}
 use native.Mathlib.Nat.{div-add-mod', div-div-eq-div-mul}
 use native.Mathlib.Omega.{arith}
-use lib.Bits.{bitAnd, bitXor, and-mod, and-shr, and-high, and-le-l, xor-mod, xor-shr, xor-zero-r}
+use lib.Bits.{bitAnd, bitXor, and-mod, and-shr, and-high, and-le-l, xor-mod, xor-shr, xor-comm, xor-zero-r}
 use Rattle.cipher.specs.Field.{_⊕_, _•_, productOf, xtime}
 use Rattle.cipher.specs.Cipher.{Bytes, byte, four, xorWord, mixByte}
 use Rattle.cipher.specs.KeyExpansion.{rotWord}
 use Rattle.cipher.specs.Packed.{bytesOf}
+use Rattle.cipher.proofs.Xor.{xor-assoc, xtime-sum}
 
 -- four parts, each equal
 pub four-equal : {A : Type 0} {a b c d a′ b′ c′ d′ : A} → a ≡ a′ → b ≡ b′ → c ≡ c′ → d ≡ d′ → (a ∷ b ∷ c ∷ d ∷ []) ≡ (a′ ∷ b′ ∷ c′ ∷ d′ ∷ [])
@@ -129,15 +130,25 @@ mul-three : (b : ℕ) → 3 • b ≡ bitXor b (xtime b)
 unfolding _•_ productOf
 mul-three b = ap (bitXor b) (xor-zero-r (xtime b))
 
--- the sum that the code makes of a column w, of w times {02}, and of their rotations
-pub mixed : (w : Bytes) (one two next past last turned : ℕ) → bytesOf one ≡ four (byte w) → bytesOf two ≡ four (λ i. xtime (byte (bytesOf one) i))
-    → bytesOf next ≡ rotWord (bytesOf one) → bytesOf past ≡ rotWord (bytesOf next) → bytesOf turned ≡ rotWord (bytesOf (bitXor one two))
-    → bytesOf last ≡ rotWord (bytesOf past) → bytesOf (bitXor (bitXor (bitXor two turned) past) last) ≡ four (mixByte w)
+-- a byte of MixColumns, as the code adds it up
+mix-byte : (a b c d : ℕ) → a < 256 → b < 256 → xtime (a ⊕ b) ⊕ b ⊕ (c ⊕ d) ≡ 2 • a ⊕ 3 • b ⊕ c ⊕ d
+mix-byte a b c d h k =
+    simp (mul-two, mul-three)
+    (ap (λ (x : ℕ). x ⊕ b ⊕ (c ⊕ d)) (xtime-sum a b h k)
+    ∙ ap (λ (x : ℕ). x ⊕ (c ⊕ d)) (xor-assoc (xtime a) (xtime b) b ∙ ap (λ (x : ℕ). xtime a ⊕ x) (xor-comm (xtime b) b))
+    ∙ sym (xor-assoc (xtime a ⊕ (b ⊕ xtime b)) c d))
+
+-- a column of MixColumns: w, its rotation, the sum of the two, twice that sum, and that sum rotated once and twice
+pub mixed : (w : Bytes) (one next twice past last : ℕ) → bytesOf one ≡ four (byte w) → bytesOf next ≡ rotWord (bytesOf one)
+    → bytesOf twice ≡ four (λ i. xtime (byte (bytesOf (bitXor one next)) i)) → bytesOf past ≡ rotWord (bytesOf (bitXor one next))
+    → bytesOf last ≡ rotWord (bytesOf past) → bytesOf (bitXor (bitXor twice next) last) ≡ four (mixByte w)
 unfolding mixByte
-mixed w one two next past last turned e f g h i j =
-    let t : bytesOf two ≡ four (λ k. xtime (byte w k)) = f ∙ ap (λ (l : Bytes). four (λ k. xtime (byte l k))) e in
-    let u : bytesOf turned ≡ rotWord (xorWord w (four (λ k. xtime (byte w k)))) = i ∙ ap rotWord (bytes-xor one two ∙ ap₂ xorWord e t) in
-    let p : bytesOf past ≡ rotWord (rotWord w) = h ∙ ap rotWord (g ∙ ap rotWord e) in
-    bytes-xor (bitXor (bitXor two turned) past) last
-    ∙ ap₂ xorWord (bytes-xor (bitXor two turned) past ∙ ap₂ xorWord (bytes-xor two turned ∙ ap₂ xorWord t u) p) (j ∙ ap rotWord p)
-    ∙ simp (mul-two, mul-three)
+mixed w one next twice past last e f g h i =
+    let s : bytesOf (bitXor one next) ≡ xorWord (bytesOf one) (rotWord (bytesOf one)) = bytes-xor one next ∙ ap (xorWord (bytesOf one)) f in
+    let t : bytesOf twice ≡ four (λ k. xtime (byte (xorWord (bytesOf one) (rotWord (bytesOf one))) k)) = g ∙ ap (λ (l : Bytes). four (λ k. xtime (byte l k))) s in
+    let u : bytesOf last ≡ rotWord (rotWord (xorWord (bytesOf one) (rotWord (bytesOf one)))) = i ∙ ap rotWord (h ∙ ap rotWord s) in
+    bytes-xor (bitXor twice next) last
+    ∙ ap₂ xorWord (bytes-xor twice next ∙ ap₂ xorWord t f) u
+    ∙ four-equal (mix-byte _ _ _ _ (omega arith) (omega arith)) (mix-byte _ _ _ _ (omega arith) (omega arith))
+    (mix-byte _ _ _ _ (omega arith) (omega arith)) (mix-byte _ _ _ _ (omega arith) (omega arith))
+    ∙ ap (λ (l : Bytes). four (mixByte l)) e

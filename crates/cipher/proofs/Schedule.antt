@@ -1,9 +1,9 @@
 -- The key schedule, as the code fills it in: word i is made of the words before it alone, and is stored behind them.
 -- Assumes nothing.
 use mathlib.Core.Path.{_≡_, refl, ap, ap₂, sym, _∙_}
-use mathlib.Core.List.{List, [], _∷_, _++_}
+use mathlib.Core.List.{[], _∷_, _++_}
 use Prim.Native.Nat.{ℕ, suc, _+_, _-_, _*_, _/_, _%_, _≤_, _<_}
-use mathlib.Core.Bool.{true, false}
+use mathlib.Core.Bool.{true}
 use lib.Dec.{eqb}
 use native.Mathlib.Nat.{le-of-eq}
 use native.Mathlib.Omega.{arith}

@@ -1,7 +1,7 @@
 // AES-128 of FIPS 197: the key expansion, and the encryption of one block.
 //
-// A state is its four columns of four bytes and passes by value through each round, as the 176 bytes of the key schedule do.
-// A leaf inside a round is lent the schedule, and the S-box table wherever it is used: that spares their copies.
+// The state, four columns of four bytes, and the key schedule of 176 bytes pass by value through each round. To spare copies, the
+// functions inside a round are lent the schedule, and all are lent the S-box table. Numbers in brackets are sections of FIPS 197.
 mod sbox;
 
 use sbox::s_box;
@@ -11,7 +11,7 @@ ghost use Prim.Native.Nat.{_+_, _*_, _<_, _≤_};
 ghost use lib.ListN.{length, take, drop};
 ghost use Rattle.cipher.specs.Field.{xtime};
 ghost use Rattle.cipher.specs.Cipher.{IsSBox, sBox, byte, four, word, xorWord, fromBlock, toBlock, subBytes, shiftRows, mixByte, mixColumns, addRoundKey, cipher};
-ghost use Rattle.cipher.specs.KeyExpansion.{rotWord, subWord, powerOfTwo, rcon, nextWord, keyExpansion};
+ghost use Rattle.cipher.specs.KeyExpansion.{rotWord, subWord, rcon, nextWord, keyExpansion};
 ghost use Rattle.cipher.specs.Packed.{bytesOf};
 
 // Words
@@ -117,7 +117,7 @@ fn shift_rows(s: [[u8; 4]; 4]) -> [[u8; 4]; 4]
     ]
 }
 
-// MixColumns (5.1.3), four bytes at a time: byte r of a column is the r-th from below of a u32.
+// MixColumns (5.1.3), on the four bytes of a column in one u32, byte 0 the lowest.
 
 fn pack(w: [u8; 4]) -> u32
     ensures { λ r. ⌜ bytesOf r ≡ four (byte w) ⌝ }
@@ -157,13 +157,15 @@ fn rotate(p: u32) -> u32
     p / 256 + p % 256 * 16777216
 }
 
+// With the bytes a, b, c, d from r on, byte r becomes 2 a + 3 b + c + d. That is 2 (a + b) + b + (c + d), where the sum of two
+// neighbours serves twice.
 fn mix_column(w: [u8; 4]) -> [u8; 4]
     ensures { λ r. ⌜ r ≡ four (mixByte w) ⌝ }
 {
     let one = pack(w);
-    let two = xtime_each(one);
-    let past = rotate(rotate(one));
-    unpack(two ^ rotate(one ^ two) ^ past ^ rotate(past))
+    let next = rotate(one);
+    let sum = one ^ next;
+    unpack(xtime_each(sum) ^ next ^ rotate(rotate(sum)))
 }
 
 fn mix_columns(s: [[u8; 4]; 4]) -> [[u8; 4]; 4]
@@ -201,6 +203,7 @@ fn add_round_key(s: [[u8; 4]; 4], w: &[u8; 176], n: usize) -> [[u8; 4]; 4]
 
 // Cipher (5.1)
 
+// Round n, from 1 to 9.
 fn round(s: [[u8; 4]; 4], round_keys: [u8; 176], t: &[u8; 256], n: usize) -> [[u8; 4]; 4]
     requires { ⌜ IsSBox (now t) × (n ≤ 10) ⌝ }
     ensures { λ r. ⌜ r ≡ addRoundKey «round_keys» n (mixColumns (shiftRows (subBytes s))) ⌝ }
@@ -208,6 +211,7 @@ fn round(s: [[u8; 4]; 4], round_keys: [u8; 176], t: &[u8; 256], n: usize) -> [[u
     add_round_key(mix_columns(shift_rows(sub_bytes(t, s))), &round_keys, n)
 }
 
+// Round 10, which mixes no columns.
 fn last_round(s: [[u8; 4]; 4], round_keys: [u8; 176], t: &[u8; 256]) -> [[u8; 4]; 4]
     requires { ⌜ IsSBox (now t) ⌝ }
     ensures { λ r. ⌜ r ≡ addRoundKey «round_keys» 10 (shiftRows (subBytes s)) ⌝ }
@@ -215,6 +219,8 @@ fn last_round(s: [[u8; 4]; 4], round_keys: [u8; 176], t: &[u8; 256]) -> [[u8; 4]
     add_round_key(shift_rows(sub_bytes(t, s)), &round_keys, 10)
 }
 
+// The encryption of one block under a key schedule: round key n is its bytes 16 n to 16 n + 15, as `expand_key` lays them out. Any other
+// 176 bytes are taken as a schedule too.
 pub fn encrypt(round_keys: [u8; 176], block: [u8; 16]) -> [u8; 16]
     ensures { λ r. ⌜ r ≡ cipher «round_keys» block ⌝ }
 {
@@ -240,7 +246,7 @@ fn round_constant(i: usize) -> [u8; 4]
     [RCON[i - 1], 0, 0, 0]
 }
 
-// What every fourth word adds in the place of the word before it.
+// SubWord(RotWord(w)), with Rcon[i] added.
 fn key_core(t: &[u8; 256], w: [u8; 4], i: usize) -> [u8; 4]
     requires { ⌜ IsSBox (now t) × (1 ≤ i) × (i ≤ 10) ⌝ }
     ensures { λ r. ⌜ r ≡ xorWord (subWord (rotWord w)) (rcon i) ⌝ }
@@ -260,6 +266,7 @@ fn next_word<'a>(t: &'a [u8; 256], w: &'a [u8; 176], i: usize) -> [u8; 4]
     }
 }
 
+// Stores word i.
 fn put_word(w: &mut [u8; 176], i: usize, x: [u8; 4])
     requires { ⌜ (i < 44) × (length (now w) ≡ 176) ⌝ }
     ensures { λ _. ⌜ now (w .exit) ≡ take (i * 4) (now (w .entry)) ++ four (byte x) ++ drop (i * 4 + 4) (now (w .entry)) ⌝ }
@@ -271,6 +278,7 @@ fn put_word(w: &mut [u8; 176], i: usize, x: [u8; 4])
     w[at + 3] = x[3];
 }
 
+// The key schedule of a key: 44 words, four for the first AddRoundKey and four for each round.
 pub fn expand_key(key: [u8; 16]) -> [u8; 176]
     ensures { λ r. ⌜ r ≡ keyExpansion key ⌝ }
 {
