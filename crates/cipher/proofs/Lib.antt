@@ -1,4 +1,5 @@
 -- Laws that belong to no one function.
+pub mod Words
 pub mod Table
 pub mod Inverse
 pub mod Xor

@@ -10,11 +10,8 @@ use Rattle.cipher.specs.Field.{_⊕_, _•_, productOf, xtime}
 use Rattle.cipher.specs.Cipher.{Bytes, byte, four, xorWord, mixByte}
 use Rattle.cipher.specs.KeyExpansion.{rotWord}
 use Rattle.cipher.specs.Packed.{bytesOf}
+use Rattle.cipher.proofs.Words.{four-equal}
 use Rattle.cipher.proofs.Xor.{xor-assoc, xtime-sum}
-
--- four parts, each equal
-pub four-equal : {A : Type 0} {a b c d a′ b′ c′ d′ : A} → a ≡ a′ → b ≡ b′ → c ≡ c′ → d ≡ d′ → (a ∷ b ∷ c ∷ d ∷ []) ≡ (a′ ∷ b′ ∷ c′ ∷ d′ ∷ [])
-four-equal p q r s = cc
 
 -- a bitwise operation goes byte by byte
 byte-xor : (k p q : ℕ) → bitXor p q / 2 ^ k % 2 ^ 8 ≡ bitXor (p / 2 ^ k % 2 ^ 8) (q / 2 ^ k % 2 ^ 8)
@@ -23,7 +20,7 @@ byte-xor k p q = rw (xor-shr p q k, xor-mod (p / 2 ^ k) (q / 2 ^ k) 8)
 byte-and : (k p q : ℕ) → bitAnd p q / 2 ^ k % 2 ^ 8 ≡ bitAnd (p / 2 ^ k % 2 ^ 8) (q / 2 ^ k % 2 ^ 8)
 byte-and k p q = rw (and-shr p q k, and-mod (p / 2 ^ k) (q / 2 ^ k) 8)
 
-pub bytes-xor : (p q : ℕ) → bytesOf (bitXor p q) ≡ xorWord (bytesOf p) (bytesOf q)
+bytes-xor : (p q : ℕ) → bytesOf (bitXor p q) ≡ xorWord (bytesOf p) (bytesOf q)
 bytes-xor p q = four-equal (xor-mod p q 8) (byte-xor 8 p q) (byte-xor 16 p q) (byte-xor 24 p q)
 
 -- the number of these four bytes

@@ -13,7 +13,7 @@ use lib.ListN.{length, getD, take, drop, set, length-append, length-take, length
 use lib.Seq.{sets-eq, take-at, getD-take, take-suc, take-suc-set, take-all}
 use Rattle.cipher.specs.Cipher.{Bytes, byte, four, word, xorWord}
 use Rattle.cipher.specs.KeyExpansion.{rotWord, subWord, rcon, temp, nextWord, extended, schedule, keyExpansion}
-use Rattle.cipher.proofs.Packed.{four-equal}
+use Rattle.cipher.proofs.Words.{four-equal}
 
 -- the words before word i are those of the first i words
 word-take : (w : Bytes) (i j : ℕ) → j < i → word (take (i * 4) w) j ≡ word w j

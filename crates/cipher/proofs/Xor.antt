@@ -41,7 +41,7 @@ xor-assoc a =
     a
 
 -- two sums, added in another order
-pub xor-swap : (a b c d : ℕ) → (a ⊕ b) ⊕ (c ⊕ d) ≡ (a ⊕ c) ⊕ (b ⊕ d)
+xor-swap : (a b c d : ℕ) → (a ⊕ b) ⊕ (c ⊕ d) ≡ (a ⊕ c) ⊕ (b ⊕ d)
 xor-swap a b c d =
     xor-assoc a b (c ⊕ d)
     ∙ ap (λ (x : ℕ). a ⊕ x) (sym (xor-assoc b c d) ∙ ap (λ (x : ℕ). x ⊕ d) (xor-comm b c) ∙ xor-assoc c b d)

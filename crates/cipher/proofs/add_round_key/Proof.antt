@@ -2,7 +2,7 @@
 -- Assumes nothing.
 use native.Mathlib.Nat.{add-zero}
 use Rattle.cipher.specs.Cipher.{addRoundKey}
-use Rattle.cipher.proofs.Packed.{four-equal}
+use Rattle.cipher.proofs.Words.{four-equal}
 use borrow.Author.Needs.{needs}
 use Rattle.cipher.proofs.add_round_key.Statement.{statement}
 use Rattle.cipher.proofs.add_round_key.Tie as tie

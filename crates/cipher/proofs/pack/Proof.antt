@@ -2,7 +2,7 @@
 -- Assumes nothing.
 use mathlib.Core.Path.{_∙_}
 use native.Mathlib.Omega.{arith}
-use Rattle.cipher.proofs.Packed.{four-equal}
+use Rattle.cipher.proofs.Words.{four-equal}
 use Rattle.cipher.proofs.Packed.{number-bytes}
 use borrow.Author.Needs.{needs}
 use Rattle.cipher.proofs.pack.Statement.{statement}

@@ -1,6 +1,6 @@
 -- `cipher::sub_bytes` meets its contract, column by column.
 -- Assumes nothing.
-use Rattle.cipher.proofs.Packed.{four-equal}
+use Rattle.cipher.proofs.Words.{four-equal}
 use borrow.Author.Needs.{needs}
 use Rattle.cipher.proofs.sub_bytes.Statement.{statement}
 use Rattle.cipher.proofs.sub_bytes.Tie as tie
