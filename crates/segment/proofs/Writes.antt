@@ -1,0 +1,151 @@
+-- Writes that follow one another, and parts of an output that were lent. Assumes nothing.
+use Prim.Native.Nat.{ℕ, zero, suc, _+_, _-_, _*_, _/_, _%_, _≤_, _<_}
+use mathlib.Core.Path.{_≡_, refl, ap, sym, _∙_, subst}
+use mathlib.Core.Bool.{Bool, true, false, true≢false, not}
+use mathlib.Core.List.{List, [], _∷_, _++_, append-nil, append-assoc}
+use native.Mathlib.Omega.{arith}
+use lib.ListN.{length, take, drop, replicate, drop-of-length-le, length-append, length-drop, length-replicate}
+use lib.Seq.{take-all, take-at, drop-at, drop-drop, length-take-le}
+use borrow.Author.Tests.{le-leb, lt-leb}
+use borrow.Rule.Slice.PartMut.{putMid, postOf}
+use Rattle.segment.specs.declared.write.Outgoing.{Outgoing}
+use Rattle.segment.specs.Checksum.{onesSum, complement}
+use Rattle.segment.specs.Write.{padding, padded, mssBytes, fastOpenBytes, optionBytes, capped, headerBytes, overwrite}
+use Rattle.segment.proofs.Sums.{sum-append}
+
+-- the output from `at` on was lent, and came back as `last`
+pub lent : (out last : List ℕ) (at : ℕ) → at ≤ length out → putMid at (length out - at) out last ≡ take at out ++ last
+lent out last at h =
+    let b : length (drop at out) ≤ length out - at = omega (arith, length-drop at out) in
+    let p : postOf at (length out - at) out ≡ [] = drop-of-length-le (drop at out) b in
+    ap (λ (x : List ℕ). take at out ++ (last ++ x)) p ∙ ap (λ (x : List ℕ). take at out ++ x) (append-nil last)
+
+-- what was lent is the output from `at` on
+pub lent-out : (out : List ℕ) (at : ℕ) → take (length out - at) (drop at out) ≡ drop at out
+lent-out out at = take-all (length out - at) (drop at out) (omega (arith, length-drop at out))
+
+-- bytes copied to the start of what was lent
+pub copied : (out src last : List ℕ) (at : ℕ) → at ≤ length out
+    → last ≡ take (length src) src ++ drop (length src) (take (length out - at) (drop at out))
+    → putMid at (length out - at) out last ≡ take at out ++ (src ++ drop (at + length src) out)
+copied out src last at h e =
+    let r : take (length src) src ≡ src = take-all (length src) src (omega arith) in
+    let l : last ≡ src ++ drop (at + length src) out = e ∙ rw (r, lent-out out at, drop-drop) in
+    lent out last at h ∙ ap (λ (x : List ℕ). take at out ++ x) l
+
+-- the first n bytes of the output o are those of a, and the later ones stay
+abbrev pub Wrote : List ℕ → List ℕ → ℕ → List ℕ → Type 0
+Wrote o a n out = (n ≡ length a) × (out ≡ a ++ drop n o)
+
+-- one more write at the end of what was written
+pub more : (o a src out end : List ℕ) (at n : ℕ) → Wrote o a at out → n ≡ at + length src
+    → end ≡ take at out ++ (src ++ drop (at + length src) out) → Wrote o (a ++ src) n end
+more o a src out end at n w k e =
+    let t : take at out ≡ a = ap (take at) (w .1) ∙ take-at a (drop at o) at (sym (w .0)) in
+    let d : drop (at + length src) out ≡ drop (at + length src) o =
+    ap (drop (at + length src)) (w .1) ∙ sym (drop-drop (length src) at (a ++ drop at o)) ∙ ap (drop (length src)) (drop-at a (drop at o) at (sym (w .0))) ∙ drop-drop (length src) at o in (
+      k ∙ ap (λ (x : ℕ). x + length src) (w .0) ∙ sym (length-append a src),
+      e ∙ rw (t, d, k, append-assoc),
+    )
+
+-- kind 1 up to a multiple of four
+pub padded-out : (o a out end : List ℕ) (at n : ℕ) → Wrote o a at out → n ≡ at + padding at
+    → end ≡ take at out ++ (replicate (padding at) 1 ++ drop (at + padding at) out) → Wrote o (padded a) n end
+padded-out o a out end at n w k e =
+    let l = length-replicate {A = ℕ} (padding at) 1 in
+    subst (λ (x : ℕ). Wrote o (a ++ replicate (padding x) 1) n end) (w .0)
+    (more o a (replicate (padding at) 1) out end at n w (k ∙ ap (λ (x : ℕ). at + x) (sym l))
+    (e ∙ ap (λ (x : ℕ). take at out ++ (replicate (padding at) 1 ++ drop (at + x) out)) (sym l)))
+
+-- the options' length
+pub options-plain : (mss : ℕ) (ck : List ℕ) → length (optionBytes mss false ck) ≡ 4
+unfolding optionBytes
+options-plain mss ck = refl
+
+pub options-fast : (mss : ℕ) (ck : List ℕ) → length (optionBytes mss true ck) ≡ 6 + length ck + padding (6 + length ck)
+unfolding optionBytes
+options-fast mss ck =
+    let n = padding (length (mssBytes mss ++ fastOpenBytes ck)) in
+    omega (arith, length-append ck (replicate {A = ℕ} n 1), length-replicate {A = ℕ} n 1)
+
+pub options-least : (mss : ℕ) (fast : Bool) (ck : List ℕ) → 4 ≤ length (optionBytes mss fast ck)
+options-least mss false ck = omega (arith, options-plain mss ck)
+options-least mss true ck = omega (arith, options-fast mss ck)
+
+-- an output with room for them has room for each of their parts
+pub room-for-cookie : (mss : ℕ) (fast : Bool) (ck : List ℕ) (n : ℕ) → not fast ≡ false → length (optionBytes mss fast ck) ≤ n → 6 + length ck ≤ n
+room-for-cookie mss true ck n e h = omega (arith, options-fast mss ck)
+room-for-cookie mss false ck n e h = absurd (true≢false e)
+
+pub room-for-padding : (mss : ℕ) (fast : Bool) (ck : List ℕ) (n at : ℕ) → not fast ≡ false → length (optionBytes mss fast ck) ≤ n → at ≡ 6 + length ck
+    → at + padding at ≤ n
+room-for-padding mss true ck n at e h k = subst (λ (x : ℕ). x + padding x ≤ n) (sym k) (omega (arith, options-fast mss ck))
+room-for-padding mss false ck n at e h k = absurd (true≢false e)
+
+-- their length, or 44: without a Fast Open option, with a cookie too long for the area, and with another
+pub capped-plain : (mss : ℕ) (fast : Bool) (ck : List ℕ) → not fast ≡ true → 4 ≡ capped (length (optionBytes mss fast ck))
+capped-plain mss true ck e = absurd (true≢false (sym e))
+capped-plain mss false ck e = rw (options-plain mss ck)
+
+pub capped-long : (mss : ℕ) (fast : Bool) (ck : List ℕ) → not fast ≡ false → 34 < length ck → 44 ≡ capped (length (optionBytes mss fast ck))
+capped-long mss true ck e h = rw (lt-leb (length (optionBytes mss true ck)) 40 (omega (arith, options-fast mss ck)))
+capped-long mss false ck e h = absurd (true≢false e)
+
+pub capped-short : (mss : ℕ) (fast : Bool) (ck : List ℕ) → not fast ≡ false → length ck ≤ 34
+    → 4 + (length ck + 5) / 4 * 4 ≡ capped (length (optionBytes mss fast ck))
+capped-short mss true ck e h = rw (le-leb (length (optionBytes mss true ck)) 40 (omega (arith, options-fast mss ck))) (omega (arith, options-fast mss ck))
+capped-short mss false ck e h = absurd (true≢false e)
+
+-- up to three bytes of kind 1
+pub ones : (n : ℕ) → n < 4 → take {A = ℕ} n (1 ∷ 1 ∷ 1 ∷ []) ≡ replicate n 1
+ones zero h = refl
+ones (suc zero) h = refl
+ones (suc (suc zero)) h = refl
+ones (suc (suc (suc zero))) h = refl
+ones (suc (suc (suc (suc n)))) h = absurd (omega arith)
+
+-- what the option writer leaves, without a Fast Open option and with one
+pub wrote-plain : (o : List ℕ) (mss : ℕ) (fast : Bool) (ck : List ℕ) (n : ℕ) (end : List ℕ) → not fast ≡ true
+    → Wrote o (mssBytes mss) n end → Wrote o (optionBytes mss fast ck) n end
+unfolding optionBytes
+wrote-plain o mss true ck n end e w = absurd (true≢false (sym e))
+wrote-plain o mss false ck n end e w = w
+
+pub wrote-fast : (o : List ℕ) (mss : ℕ) (fast : Bool) (ck : List ℕ) (n : ℕ) (end : List ℕ) → not fast ≡ false
+    → Wrote o (padded (mssBytes mss ++ fastOpenBytes ck)) n end → Wrote o (optionBytes mss fast ck) n end
+unfolding optionBytes
+wrote-fast o mss true ck n end e w = w
+wrote-fast o mss false ck n end e w = absurd (true≢false e)
+
+-- a write's count and its output, as the contracts say them
+pub overwrote : (o a : List ℕ) (n : ℕ) (end : List ℕ) → Wrote o a n end → (n ≡ length a) × (end ≡ overwrite a o)
+overwrote o a n end w = (w .0, w .1 ∙ ap (λ (k : ℕ). a ++ drop k o) (w .0))
+
+-- options and payload, from byte 20 on: two parts lent one after the other
+pub body : (out options last₁ payload last₂ : List ℕ) (m : ℕ) → 20 + m ≤ length out → m ≡ length options
+    → last₁ ≡ overwrite options (take (length out - 20) (drop 20 out))
+    → 20 + m ≤ length (putMid 20 (length out - 20) out last₁)
+    → last₂ ≡ take (length payload) payload ++ drop (length payload) (take (length (putMid 20 (length out - 20) out last₁) - (20 + m)) (drop (20 + m) (putMid 20 (length out - 20) out last₁)))
+    → putMid (20 + m) (length (putMid 20 (length out - 20) out last₁) - (20 + m)) (putMid 20 (length out - 20) out last₁) last₂
+    ≡ take 20 out ++ (options ++ (payload ++ drop (20 + m + length payload) out))
+body out options last₁ payload last₂ m h em e₁ k e₂ =
+    let out₁ = putMid 20 (length out - 20) out last₁ in
+    let a = take 20 out ++ options in
+    let l : last₁ ≡ options ++ drop (20 + m) out =
+    e₁ ∙ rw (lent-out out 20, drop-drop (length options) 20 out, ← em) in
+    let p : out₁ ≡ a ++ drop (20 + m) out = lent out last₁ 20 (omega arith) ∙ rw (l, append-assoc) in
+    let n : 20 + m ≡ length a = sym (length-append (take 20 out) options ∙ rw (length-take-le 20 out (omega arith), ← em)) in
+    let w = more out a payload out₁ _ (20 + m) _ (n, p) refl (copied out₁ payload last₂ (20 + m) k e₂) in
+    w .1 ∙ simp append-assoc
+
+-- the header, signed by the sum over the pseudo-header, itself with no checksum, and what follows it
+pub headed : (f : Outgoing) (words s₁ s₂ s₃ : ℕ) (pseudo rest h₀ h out end : List ℕ) → length pseudo % 2 ≡ 0
+    → h₀ ≡ headerBytes f words 0 → s₁ ≡ onesSum 0 pseudo → s₂ ≡ onesSum s₁ h₀ → s₃ ≡ onesSum s₂ rest
+    → h ≡ headerBytes f words (complement s₃)
+    → end ≡ take (length h) h ++ drop (length h) out
+    → end ≡ headerBytes f words (complement (onesSum 0 (pseudo ++ (headerBytes f words 0 ++ rest)))) ++ drop 20 out
+unfolding headerBytes
+headed f words s₁ s₂ s₃ pseudo rest h₀ h out end ev e₀ e₁ e₂ e₃ eh ee =
+    let s : s₃ ≡ onesSum 0 (pseudo ++ (headerBytes f words 0 ++ rest)) =
+    e₃ ∙ rw (e₂, e₁, e₀) (sym (sum-append 0 pseudo (headerBytes f words 0 ++ rest) ev ∙ sum-append (onesSum 0 pseudo) (headerBytes f words 0) rest refl)) in
+    ee ∙ ap (λ (x : List ℕ). take (length x) x ++ drop (length x) out) eh ∙ ap (λ (x : ℕ). headerBytes f words (complement x) ++ drop 20 out) s

@@ -1,0 +1,56 @@
+-- `segment::header::option_area` meets its contract.
+-- Assumes nothing.
+use mathlib.Core.Path.{sym, _∙_, ap}
+use native.Mathlib.Omega.{arith}
+use Rattle.segment.specs.Header.{optionArea}
+use Rattle.segment.proofs.Formed.{formed}
+use borrow.Author.Needs.{needs}
+use Rattle.segment.proofs.header.option_area.Statement.{statement}
+use Rattle.segment.proofs.header.option_area.Tie as tie
+
+is-malformed-requires : tie.Need-is-malformed-requires
+is-malformed-requires c κs = search needs
+
+slice-aggregate-result : tie.Need-slice-aggregate-result
+slice-aggregate-result c = search needs
+
+returns : tie.Need-returns
+unfolding optionArea
+returns c = simp (sym (c .before .before .is-malformed .ensures) ∙ c .before .if1 .taken)
+
+shared-slice-read-end : tie.Need-shared-slice-read-end
+shared-slice-read-end c = omega (arith, formed _ (sym (c .before .before .is-malformed .ensures) ∙ c .before .if1 .left))
+
+cast-end : tie.Need-cast-end
+cast-end c = omega (arith, c .shared-slice-known2 .given 12)
+
+mul-end : tie.Need-mul-end
+mul-end c = omega (arith, c .shared-slice-known2 .given 12)
+
+sub-result : tie.Need-sub-result
+sub-result c = omega (arith, formed _ (sym (c .before .before .is-malformed .ensures) ∙ c .before .if1 .left))
+
+part-result-start : tie.Need-part-result-start
+part-result-start c = omega (arith, formed _ (sym (c .before .before .is-malformed .ensures) ∙ c .before .if1 .left))
+
+part-result-end : tie.Need-part-result-end
+part-result-end c = omega (arith, formed _ (sym (c .before .before .is-malformed .ensures) ∙ c .before .if1 .left))
+
+returns-2 : tie.Need-returns-2
+unfolding optionArea
+returns-2 c = simp (sym (c .before .before .before .is-malformed .ensures) ∙ c .before .before .if1 .left)
+
+pub option-area-spec : {M : Type 1} → statement M
+option-area-spec =
+    tie.close
+    (tie.spec
+    is-malformed-requires
+    slice-aggregate-result
+    returns
+    shared-slice-read-end
+    cast-end
+    mul-end
+    sub-result
+    part-result-start
+    part-result-end
+    returns-2)

@@ -1,0 +1,34 @@
+-- `segment::options::mss_option` meets its contract.
+-- Assumes nothing.
+use mathlib.Core.Path.{refl, _∙_}
+use borrow.Author.Tests.{eq-eqb, ne-eqb}
+use Rattle.segment.specs.Options.{mssOption}
+use borrow.Author.Needs.{needs}
+use Rattle.segment.proofs.options.mss_option.Statement.{statement}
+use Rattle.segment.proofs.options.mss_option.Tie as tie
+
+shared-slice-read-if1 : tie.Need-shared-slice-read-if1
+shared-slice-read-if1 c = search needs
+
+add-word-at : tie.Need-add-word-at
+add-word-at c = search needs
+
+word-at-requires : tie.Need-word-at-requires
+word-at-requires c κs = search needs
+
+returns : tie.Need-returns
+unfolding mssOption
+returns c = simp (eq-eqb _ _ (c .before .before .if1 .taken), eq-eqb _ _ (c .before .if2 .taken), c .word-at .ensures)
+
+returns-2 : tie.Need-returns-2
+unfolding mssOption
+returns-2 c = simp (eq-eqb _ _ (c .before .if1 .taken), ne-eqb _ _ (c .if2 .left))
+
+returns-3 : tie.Need-returns-3
+unfolding mssOption
+returns-3 c = simp (ne-eqb _ _ (c .if1 .left))
+
+pub mss-option-spec : {M : Type 1} → statement M
+mss-option-spec =
+    tie.close
+    (tie.spec shared-slice-read-if1 add-word-at word-at-requires returns returns-2 returns-3)

@@ -1,0 +1,132 @@
+-- `segment::options::read_options` meets its contract: one way on and five ways out, each a case of one turn.
+-- Assumes nothing.
+use borrow.Author.Needs.{needs}
+use borrow.Author.Tests.{eq-eqb, ne-eqb, le-leb, lt-leb}
+use native.Mathlib.Omega.{arith}
+use Prim.Native.Nat.{ℕ, _+_, _-_, _≤_}
+use mathlib.Core.Path.{_≡_, refl, sym, _∙_, ap}
+use mathlib.Core.List.{List}
+use lib.ListN.{length, drop-of-length-le, List·getD-eq-default}
+use Rattle.segment.specs.Bytes.{byteAt}
+use Rattle.segment.specs.Options.{readOptions, readFrom}
+use Rattle.segment.proofs.Reading.{readAt, turned}
+use Rattle.segment.proofs.options.read_options.Statement.{statement}
+use Rattle.segment.proofs.options.read_options.Tie as tie
+
+abbrev Inv-loop : tie.InvT-loop
+Inv-loop area n found₀ i₀ found i = (n ≡ length area) × ((i ≤ n) × (readAt area i found ≡ readOptions area))
+
+abbrev μ-loop : tie.MeasureT-loop
+μ-loop area n found₀ i₀ found i = n - i
+
+loop-holds : tie.Need-loop-holds Inv-loop μ-loop
+unfolding readOptions
+loop-holds c = (refl, (search needs, refl))
+
+shared-slice-read-kind : tie.Need-shared-slice-read-kind Inv-loop μ-loop
+shared-slice-read-kind c = search needs
+
+returns : tie.Need-returns Inv-loop μ-loop
+returns c =
+    let q = c .before .before .before .loop in
+    let e = turned (c .before .before .before .before .before .args .area .now) (q .i) (q .found) (omega arith) in
+    sym (simp (eq-eqb _ _ (c .if1 .taken)) at e) ∙ q .inv .1 .1
+
+add-i : tie.Need-add-i Inv-loop μ-loop
+add-i c = search needs
+
+loop-less : tie.Need-loop-less Inv-loop μ-loop
+loop-less c = search needs
+
+loop-again : tie.Need-loop-again Inv-loop μ-loop
+loop-again c =
+    let q = c .before .before .before .before .loop in
+    let e = turned (c .before .before .before .before .before .before .args .area .now) (q .i) (q .found) (omega arith) in
+    (refl, (search needs, sym (simp (ne-eqb _ _ (c .before .if1 .left), eq-eqb _ _ (c .if2 .taken)) at e) ∙ q .inv .1 .1))
+
+sub-if3 : tie.Need-sub-if3 Inv-loop μ-loop
+sub-if3 c = search needs
+
+returns-2 : tie.Need-returns-2 Inv-loop μ-loop
+returns-2 c =
+    let q = c .before .before .before .before .before .loop in
+    let s = c .before .before .before .before .before .before .before .args .area .now in
+    let e = turned s (q .i) (q .found) (omega arith) in
+    let z : length s ≤ q .i + 1 = omega arith in
+    sym (simp (ne-eqb _ _ (c .before .before .if1 .left), ne-eqb _ _ (c .before .if2 .left), List·getD-eq-default s 0 z) at e) ∙ q .inv .1 .1
+
+add-len : tie.Need-add-len Inv-loop μ-loop
+add-len c = search needs
+
+shared-slice-read-len : tie.Need-shared-slice-read-len Inv-loop μ-loop
+shared-slice-read-len c = search needs
+
+cast-len : tie.Need-cast-len Inv-loop μ-loop
+cast-len c = omega (arith, c .shared-slice-known3 .given (c .before .before .before .before .before .before .loop .i + 1))
+
+returns-3 : tie.Need-returns-3 Inv-loop μ-loop
+returns-3 c =
+    let q = c .before .before .before .before .before .before .before .loop in
+    let e = turned (c .before .before .before .before .before .before .before .before .before .args .area .now) (q .i) (q .found) (omega arith) in
+    sym (simp (ne-eqb _ _ (c .before .before .before .before .if1 .left), ne-eqb _ _ (c .before .before .before .if2 .left), lt-leb _ _ (c .if4 .taken)) at e) ∙ q .inv .1 .1
+
+sub-if5 : tie.Need-sub-if5 Inv-loop μ-loop
+sub-if5 c = search needs
+
+returns-4 : tie.Need-returns-4 Inv-loop μ-loop
+returns-4 c =
+    let q = c .before .before .before .before .before .before .before .before .loop in
+    let e = turned (c .before .before .before .before .before .before .before .before .before .before .args .area .now) (q .i) (q .found) (omega arith) in
+    sym (simp (ne-eqb _ _ (c .before .before .before .before .before .if1 .left), ne-eqb _ _ (c .before .before .before .before .if2 .left), le-leb _ _ (c .before .if4 .left), lt-leb _ _ (c .if5 .taken)) at e) ∙ q .inv .1 .1
+
+with-option-requires : tie.Need-with-option-requires Inv-loop μ-loop
+with-option-requires c κs = search needs
+
+add-i-2 : tie.Need-add-i-2 Inv-loop μ-loop
+add-i-2 c = search needs
+
+loop-less-2 : tie.Need-loop-less-2 Inv-loop μ-loop
+loop-less-2 c = search needs
+
+loop-again-2 : tie.Need-loop-again-2 Inv-loop μ-loop
+loop-again-2 c =
+    let q = c .before .before .before .before .before .before .before .before .before .loop in
+    let s = c .before .before .before .before .before .before .before .before .before .before .before .args .area .now in
+    let e = turned s (q .i) (q .found) (omega arith) in
+    let g = simp (ne-eqb _ _ (c .before .before .before .before .before .before .if1 .left), ne-eqb _ _ (c .before .before .before .before .before .if2 .left), le-leb _ _ (c .before .before .if4 .left), le-leb _ _ (c .before .if5 .left)) at e in
+    let p : q .i + 1 + (byteAt s (q .i + 1) - 1) ≡ q .i + byteAt s (q .i + 1) = omega arith in
+    (refl, (omega arith, cc))
+
+returns-5 : tie.Need-returns-5 Inv-loop μ-loop
+unfolding readFrom
+returns-5 c =
+    let q = c .before .loop in
+    let s = c .before .before .before .args .area .now in
+    let z : length s ≤ q .i = omega arith in
+    sym (ap (λ (t : List ℕ). readFrom s (q .i) 0 t (q .found)) (drop-of-length-le s z)) ∙ q .inv .1 .1
+
+pub read-options-spec : {M : Type 1} → statement M
+read-options-spec =
+    tie.close
+    (tie.spec
+    Inv-loop
+    μ-loop
+    loop-holds
+    shared-slice-read-kind
+    returns
+    add-i
+    loop-less
+    loop-again
+    sub-if3
+    returns-2
+    add-len
+    shared-slice-read-len
+    cast-len
+    returns-3
+    sub-if5
+    returns-4
+    with-option-requires
+    add-i-2
+    loop-less-2
+    loop-again-2
+    returns-5)

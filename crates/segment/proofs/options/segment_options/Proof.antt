@@ -1,0 +1,30 @@
+-- `segment::options::segment_options` meets its contract.
+-- Assumes nothing.
+use mathlib.Core.Path.{sym, _∙_, ap}
+use Rattle.segment.specs.Options.{optionsOf}
+use borrow.Author.Needs.{needs}
+use mathlib.Core.Path.{sym, _∙_}
+use Rattle.segment.proofs.options.segment_options.Statement.{statement}
+use Rattle.segment.proofs.options.segment_options.Tie as tie
+
+option-area-requires : tie.Need-option-area-requires
+option-area-requires c κs = search needs
+
+read-options-requires : tie.Need-read-options-requires
+read-options-requires c κs = search needs
+
+has-syn-requires : tie.Need-has-syn-requires
+has-syn-requires c κs = search needs
+
+returns : tie.Need-returns
+unfolding optionsOf
+returns c = rw (sym (c .before .has-syn .ensures) ∙ c .if1 .taken) (cc)
+
+returns-2 : tie.Need-returns-2
+unfolding optionsOf
+returns-2 c = rw (sym (c .before .has-syn .ensures) ∙ c .if1 .left) (cc)
+
+pub segment-options-spec : {M : Type 1} → statement M
+segment-options-spec =
+    tie.close
+    (tie.spec option-area-requires read-options-requires has-syn-requires returns returns-2)

@@ -1,0 +1,41 @@
+-- `segment::write::append` meets its contract.
+-- Assumes nothing.
+use native.Mathlib.Omega.{arith}
+use Prim.Native.Nat.{ℕ, _+_, _≤_}
+use mathlib.Core.Path.{ap}
+use lib.ListN.{length}
+use Rattle.segment.proofs.Writes.{copied}
+use borrow.Author.Needs.{needs}
+use Rattle.segment.proofs.write.append.Statement.{statement}
+use Rattle.segment.proofs.write.append.Tie as tie
+
+sub-copy : tie.Need-sub-copy
+sub-copy c = search needs
+
+part-copy-start : tie.Need-part-copy-start
+part-copy-start c = search needs
+
+part-copy-end : tie.Need-part-copy-end
+part-copy-end c = search needs
+
+copy-requires : tie.Need-copy-requires
+copy-requires c κs = search needs
+
+add-result : tie.Need-add-result
+add-result c = search needs
+
+same-length : tie.Need-same-length
+same-length c = search needs
+
+returns : tie.Need-returns
+returns c =
+    let s = c .before .before .before .before .before .before in
+    let a = s .args in
+    let h : a .at ≤ length (a .out .now) = omega (arith, s .pre) in
+    let e = c .before .before .copy .ensures in
+    (ap (λ (k : ℕ). a .at + k) (e .0), copied (a .out .now) (a .src .now) _ (a .at) h (e .1))
+
+pub append-spec : {M : Type 1} → statement M
+append-spec =
+    tie.close
+    (tie.spec sub-copy part-copy-start part-copy-end copy-requires add-result same-length returns)

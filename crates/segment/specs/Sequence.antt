@@ -1,0 +1,21 @@
+-- RFC 9293, 3.4, and document 01, "Answer", "Completion", "Client": sequence numbers, modulo 2^32.
+-- Assumes nothing.
+use Prim.Native.Nat.{ℕ, _+_, _-_, _%_, _^_}
+use mathlib.Core.Bool.{Bool}
+use lib.Dec.{ltb}
+
+-- The number after an initial number and so many bytes: what an answer acknowledges, and what the next segment is expected to begin with (RCV.NXT).
+unfoldable pub nextAfter : ℕ → ℕ → ℕ
+nextAfter initial bytes = (initial + 1 + bytes) % 2 ^ 32
+
+-- how far a lies past b, both below 2^32
+unfoldable pub past : ℕ → ℕ → ℕ
+past a b = (a + 2 ^ 32 - b) % 2 ^ 32
+
+-- a completion's sequence number is admitted: it lies less than 65,535 past the expected one
+unfoldable pub inWindow : ℕ → ℕ → Bool
+inWindow expected seq = ltb (past seq expected) 65535
+
+-- how many bytes after the opening an answer acknowledges: its acknowledgement − our number − 1
+unfoldable pub acknowledged : ℕ → ℕ → ℕ
+acknowledged iss ack = past (past ack iss) 1

@@ -1,0 +1,105 @@
+-- RFC 9293, 3.1, RFC 7413, 4.1.1, and document 01, "Answer" and "Client": the segments that are written.
+-- Assumes nothing.
+use Prim.Native.Nat.{ℕ, _+_, _-_, _*_, _/_, _%_}
+use mathlib.Core.List.{List, [], _∷_, _++_}
+use mathlib.Core.Bool.{Bool, true, false, cond, _&&_}
+use lib.ListN.{length, drop, replicate}
+use lib.Dec.{leb}
+use Rattle.segment.specs.Bytes.{be16, be32}
+use Rattle.segment.specs.Header.{SYN, ACK}
+use Rattle.segment.specs.Checksum.{complement, oneFamily, segmentSum}
+use Rattle.segment.specs.Sequence.{nextAfter}
+use Rattle.segment.specs.declared.write.Outgoing.{Outgoing}
+use Rattle.segment.specs.declared.write.Answer.{Answer}
+use Rattle.segment.specs.declared.write.Opening.{Opening}
+
+-- kind 2, length 4 and the maximum segment size
+abbrev pub mssBytes : ℕ → List ℕ
+mssBytes mss = 2 ∷ 4 ∷ be16 mss
+
+-- kind 34, the length and the cookie; an empty cookie is a request
+abbrev pub fastOpenBytes : List ℕ → List ℕ
+fastOpenBytes cookie = 34 ∷ (length cookie + 2) ∷ cookie
+
+-- how many bytes of kind 1 follow n bytes of options, up to a multiple of four
+abbrev pub padding : ℕ → ℕ
+padding n = (4 - n % 4) % 4
+
+abbrev pub padded : List ℕ → List ℕ
+padded options = options ++ replicate (padding (length options)) 1
+
+-- the option area: the MSS option and, if there is to be one, the Fast Open option
+unfoldable pub optionBytes : ℕ → Bool → List ℕ → List ℕ
+optionBytes mss false cookie = mssBytes mss
+optionBytes mss true cookie = padded (mssBytes mss ++ fastOpenBytes cookie)
+
+-- the header of so many 32-bit words, with a checksum; window 65,535, urgent 0
+unfoldable pub headerBytes : Outgoing → ℕ → ℕ → List ℕ
+headerBytes f words check =
+    be16 (f .source) ++ be16 (f .dest) ++ be32 (f .seq) ++ be32 (f .ack)
+    ++ (words * 16 ∷ f .flags ∷ []) ++ be16 65535 ++ be16 check ++ be16 0
+
+-- the header before its options and payload. The checksum is the complement of the sum in which its own field is 0.
+unfoldable pub segmentWith : Outgoing → ℕ → List ℕ → List ℕ → List ℕ
+segmentWith f check options payload = headerBytes f ((20 + length options) / 4) check ++ (options ++ payload)
+
+unfoldable pub segmentBytes : List ℕ → List ℕ → Outgoing → List ℕ → List ℕ → List ℕ
+segmentBytes src dst f options payload =
+    segmentWith f (complement (segmentSum src dst (segmentWith f 0 options payload))) options payload
+
+-- A segment is written where its addresses are of one family, its options fit the option area, it has no more than the 1,520 bytes that
+-- are read, and the output has room for it. (Of the lengths of its options and payload, and the output's.)
+unfoldable pub canWrite : Bool → ℕ → ℕ → ℕ → Bool
+canWrite family options payload room =
+    family && (leb options 40 && (leb (20 + options + payload) 1520 && leb (20 + options + payload) room))
+
+-- a length of options that fits the area, or 44
+abbrev pub capped : ℕ → ℕ
+capped n = cond (leb n 40) n 44
+
+-- the option area of a segment to be written
+abbrev pub optionsFor : Outgoing → List ℕ → List ℕ
+optionsFor f cookie = optionBytes (f .mss) (f .fast) cookie
+
+-- the bytes that are written to an output with so much room; none where the segment is not written
+unfoldable pub written : List ℕ → List ℕ → Outgoing → List ℕ → List ℕ → ℕ → List ℕ
+written src dst f cookie payload room =
+    cond (canWrite (oneFamily src dst) (length (optionsFor f cookie)) (length payload) room)
+    (segmentBytes src dst f (optionsFor f cookie) payload)
+    []
+
+-- an output with these bytes at its start, and later bytes as they were
+abbrev pub overwrite : List ℕ → List ℕ → List ℕ
+overwrite bytes out = bytes ++ drop (length bytes) out
+
+-- "Answer": SYN and ACK, our initial number, their number + 1 + accepted, and a cookie if it is fresh
+abbrev pub answerFields : Answer → Outgoing
+answerFields a =
+    record {
+      source = a .source;
+      dest = a .dest;
+      seq = a .iss;
+      ack = nextAfter (a .irs) (a .accepted);
+      flags = SYN + ACK;
+      mss = a .mss;
+      fast = a .fresh;
+    }
+
+unfoldable pub answerBytes : List ℕ → List ℕ → Answer → List ℕ → ℕ → List ℕ
+answerBytes src dst a cookie room = written src dst (answerFields a) cookie [] room
+
+-- "Client": SYN, our initial number, acknowledgement 0, and a Fast Open option if there is to be one
+abbrev pub openingFields : Opening → Outgoing
+openingFields o =
+    record {
+      source = o .source;
+      dest = o .dest;
+      seq = o .iss;
+      ack = 0;
+      flags = SYN;
+      mss = o .mss;
+      fast = o .fast;
+    }
+
+unfoldable pub openingBytes : List ℕ → List ℕ → Opening → List ℕ → List ℕ → ℕ → List ℕ
+openingBytes src dst o cookie payload room = written src dst (openingFields o) cookie payload room

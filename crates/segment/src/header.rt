@@ -1,0 +1,165 @@
+// The header of a segment, its kind and its parts (RFC 9293, 3.1).
+use crate::number::long_at;
+use crate::number::word_at;
+ghost use mathlib.Core.Path.{_≡_};
+ghost use mathlib.Core.Bool.{true, false};
+ghost use Prim.Native.Nat.{_≤_};
+ghost use lib.ListN.{length};
+ghost use Rattle.segment.specs.Bytes.{byteAt};
+ghost use Rattle.segment.specs.Header.{malformed, fieldsOf, shapeOf, optionArea, payloadOf, SYN, has, kindOf, synAck};
+
+pub struct Header {
+    pub source: u16,
+    pub dest: u16,
+    pub seq: u32,
+    pub ack: u32,
+    pub offset: u8,
+    pub flags: u8,
+}
+
+// A segment is refused (document 01's number 1) or has a header.
+pub enum Shape {
+    Malformed,
+    WellFormed(Header),
+}
+
+// Document 01's opening, reset and completion, and all else.
+pub enum Kind {
+    Syn,
+    Rst,
+    Ack,
+    Other,
+}
+
+// Whether a segment is refused for its shape: its length, its data offset, or a header that is longer than it.
+pub fn is_malformed(seg: &[u8]) -> bool
+    ensures { λ r. ⌜ r ≡ malformed (now (seg .entry)) ⌝ }
+{
+    let n = seg.len();
+    if n < 20 {
+        return true;
+    }
+    if 1520 < n {
+        return true;
+    }
+    let offset = (seg[12] / 16) as usize;
+    if offset < 5 {
+        return true;
+    }
+    n < 4 * offset
+}
+
+fn fields(seg: &[u8]) -> Header
+    requires { ⌜ 20 ≤ length (now seg) ⌝ }
+    ensures { λ r. ⌜ r ≡ fieldsOf (now (seg .entry)) ⌝ }
+{
+    Header {
+        source: word_at(seg, 0),
+        dest: word_at(seg, 2),
+        seq: long_at(seg, 4),
+        ack: long_at(seg, 8),
+        offset: seg[12] / 16,
+        flags: seg[13],
+    }
+}
+
+pub fn read_header(seg: &[u8]) -> Shape
+    ensures { λ r. ⌜ r ≡ shapeOf (now (seg .entry)) ⌝ }
+{
+    if is_malformed(seg) {
+        return Shape::Malformed;
+    }
+    Shape::WellFormed(fields(seg))
+}
+
+// The option area, as a part of the segment: from byte 20 to the header's end, at most 40 bytes; empty where the segment is malformed.
+pub fn option_area(seg: &[u8]) -> &[u8]
+    ensures { λ r. ⌜ now r ≡ optionArea (now (seg .entry)) ⌝ }
+{
+    if is_malformed(seg) {
+        return &seg[..0];
+    }
+    let end = 4 * ((seg[12] / 16) as usize);
+    &seg[20..end]
+}
+
+// The payload, as a part of the segment; empty where the segment is malformed.
+pub fn payload(seg: &[u8]) -> &[u8]
+    ensures { λ r. ⌜ now r ≡ payloadOf (now (seg .entry)) ⌝ }
+{
+    if is_malformed(seg) {
+        return &seg[..0];
+    }
+    let end = 4 * ((seg[12] / 16) as usize);
+    &seg[end..]
+}
+
+// The control bits, by their weight in the flags.
+const FIN: u8 = 1;
+
+const SYN: u8 = 2;
+
+const RST: u8 = 4;
+
+const ACK: u8 = 16;
+
+fn has_bit(flags: u8, bit: u8) -> bool
+    requires { ⌜ 1 ≤ bit ⌝ }
+    ensures { λ r. ⌜ r ≡ has flags bit ⌝ }
+{
+    flags / bit % 2 == 1
+}
+
+// Whether a segment has the SYN flag; false where it has no byte of flags.
+pub(crate) fn has_syn(seg: &[u8]) -> bool
+    ensures { λ r. ⌜ r ≡ has (byteAt (now (seg .entry)) 13) SYN ⌝ }
+{
+    if seg.len() < 14 {
+        return false;
+    }
+    has_bit(seg[13], SYN)
+}
+
+// The kind of segment, by its flags.
+pub fn kind_of(flags: u8) -> Kind
+    ensures { λ r. ⌜ r ≡ kindOf flags ⌝ }
+{
+    if has_bit(flags, SYN) {
+        if has_bit(flags, ACK) {
+            return Kind::Other;
+        }
+        if has_bit(flags, RST) {
+            return Kind::Other;
+        }
+        if has_bit(flags, FIN) {
+            return Kind::Other;
+        }
+        return Kind::Syn;
+    }
+    if has_bit(flags, RST) {
+        return Kind::Rst;
+    }
+    if has_bit(flags, ACK) {
+        return Kind::Ack;
+    }
+    Kind::Other
+}
+
+// Whether the flags are those of an answer to an opening.
+pub fn is_syn_ack(flags: u8) -> bool
+    ensures { λ r. ⌜ r ≡ synAck flags ⌝ }
+{
+    if !has_bit(flags, SYN) {
+        return false;
+    }
+    if !has_bit(flags, ACK) {
+        return false;
+    }
+    if has_bit(flags, RST) {
+        return false;
+    }
+    if has_bit(flags, FIN) {
+        return false;
+    }
+    true
+}

@@ -1,0 +1,170 @@
+// The option reader (RFC 9293, 3.1; RFC 7413, 4.1.1).
+use crate::header::has_syn;
+use crate::header::option_area;
+use crate::number::word_at;
+ghost use mathlib.Core.Path.{_≡_};
+ghost use Prim.Native.Nat.{_+_, _^_, _≤_, _<_};
+ghost use lib.ListN.{length, take, drop};
+ghost use Rattle.segment.specs.Options.{mssOption, fastOpenOption, firstMss, firstFastOpen, withOption, readOptions, optionsOf, cookieBytes};
+
+// The maximum segment size, if an option gave one.
+pub enum Mss {
+    Unseen,
+    Is(u16),
+}
+
+// The Fast Open option: none, an empty one that asks for a cookie, or a cookie by its place in the area.
+pub enum FastOpen {
+    Absent,
+    Request,
+    Cookie { at: usize, len: usize },
+}
+
+// The options that count, the first of each kind.
+pub struct Options {
+    pub mss: Mss,
+    pub fast: FastOpen,
+}
+
+fn first_mss(found: Mss, next: Mss) -> Mss
+    ensures { λ r. ⌜ r ≡ firstMss found next ⌝ }
+{
+    match found {
+        Mss::Unseen => next,
+        Mss::Is(v) => Mss::Is(v),
+    }
+}
+
+fn first_fast_open(found: FastOpen, next: FastOpen) -> FastOpen
+    ensures { λ r. ⌜ r ≡ firstFastOpen found next ⌝ }
+{
+    match found {
+        FastOpen::Absent => next,
+        FastOpen::Request => FastOpen::Request,
+        FastOpen::Cookie { at, len } => FastOpen::Cookie { at, len },
+    }
+}
+
+fn mss_option(area: &[u8], i: usize, len: usize) -> Mss
+    requires { ⌜ (2 ≤ len) × (i + len ≤ length (now area)) ⌝ }
+    ensures { λ r. ⌜ r ≡ mssOption (now (area .entry)) i len ⌝ }
+{
+    if area[i] == 2 {
+        if len == 4 {
+            return Mss::Is(word_at(area, i + 2));
+        }
+    }
+    Mss::Unseen
+}
+
+fn fast_open_option(kind: u8, i: usize, len: usize) -> FastOpen
+    requires { ⌜ i + len < 2 ^ 64 ⌝ }
+    ensures { λ r. ⌜ r ≡ fastOpenOption kind i len ⌝ }
+{
+    if kind == 34 {
+        if len == 2 {
+            return FastOpen::Request;
+        }
+        if 6 <= len {
+            if len <= 18 {
+                if len % 2 == 0 {
+                    return FastOpen::Cookie {
+                        at: i + 2,
+                        len: len - 2,
+                    };
+                }
+            }
+        }
+    }
+    FastOpen::Absent
+}
+
+// What is found so far, with the option of `len` bytes at `i`.
+fn with_option(found: Options, area: &[u8], i: usize, len: usize) -> Options
+    requires { ⌜ (2 ≤ len) × (i + len ≤ length (now area)) ⌝ }
+    ensures { λ r. ⌜ r ≡ withOption found (now (area .entry)) i len ⌝ }
+{
+    let mss = found.mss;
+    let fast = found.fast;
+    Options {
+        mss: first_mss(mss, mss_option(area, i, len)),
+        fast: first_fast_open(fast, fast_open_option(area[i], i, len)),
+    }
+}
+
+// Reads an option area. Where a length does not fit, the reading ends and what was found before stands.
+pub fn read_options(area: &[u8]) -> Options
+    ensures { λ r. ⌜ r ≡ readOptions (now (area .entry)) ⌝ }
+{
+    let n = area.len();
+    let mut found = Options {
+        mss: Mss::Unseen,
+        fast: FastOpen::Absent,
+    };
+    let mut i = 0;
+    while i < n {
+        let kind = area[i];
+        if kind == 0 {
+            return found;
+        }
+        if kind == 1 {
+            i += 1;
+            continue;
+        }
+        if n - i < 2 {
+            return found;
+        }
+        let len = area[i + 1] as usize;
+        if len < 2 {
+            return found;
+        }
+        if n - i < len {
+            return found;
+        }
+        let next = with_option(found, area, i, len);
+        found = next;
+        i += len;
+    }
+    found
+}
+
+// The options of a segment that count: without SYN no Fast Open option does, and a malformed segment has none.
+pub fn segment_options(seg: &[u8]) -> Options
+    ensures { λ r. ⌜ r ≡ optionsOf (now (seg .entry)) ⌝ }
+{
+    let found = read_options(option_area(seg));
+    if has_syn(seg) {
+        return found;
+    }
+    let mss = found.mss;
+    Options {
+        mss,
+        fast: FastOpen::Absent,
+    }
+}
+
+// The bytes of the cookie that was found in this area, as a part of it; empty where none was.
+pub fn cookie(area: &[u8], fast: FastOpen) -> &[u8]
+    ensures { λ r. ⌜ now r ≡ cookieBytes fast (now (area .entry)) ⌝ }
+{
+    match fast {
+        FastOpen::Cookie { at, len } => part(area, at, len),
+        FastOpen::Request => &area[..0],
+        FastOpen::Absent => &area[..0],
+    }
+}
+
+// At most `len` bytes from `at` on.
+fn part(s: &[u8], at: usize, len: usize) -> &[u8]
+    ensures { λ r. ⌜ now r ≡ take len (drop at (now (s .entry))) ⌝ }
+{
+    let n = s.len();
+    if n < at {
+        return &s[..0];
+    }
+    if n - at < len {
+        return &s[at..];
+    }
+    let end = at + len;
+    &s[at..end]
+}

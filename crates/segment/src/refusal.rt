@@ -1,0 +1,57 @@
+// The refusals that listener and client share. In which order they are looked for is in specs/Refusal.antt.
+ghost use mathlib.Core.Path.{_≡_};
+ghost use Rattle.segment.specs.Refusal.{numberOf, answered};
+
+// Why a call is refused. When each is given is document 01's table, "Numbers returned".
+pub enum Refusal {
+    Shape,
+    Address,
+    Checksum,
+    Port,
+    Time,
+    Flags,
+    NameInUse,
+    TableFull,
+    NoConnection,
+    Sequence,
+    Output,
+    Range,
+    NotStarted,
+}
+
+// What the checks of a call come to.
+pub enum Check {
+    Clear,
+    Refused(Refusal),
+}
+
+// The number of a refusal, 1 to 13.
+pub fn number(why: Refusal) -> u8
+    ensures { λ r. ⌜ r ≡ numberOf why ⌝ }
+{
+    match why {
+        Refusal::Shape => 1,
+        Refusal::Address => 2,
+        Refusal::Checksum => 3,
+        Refusal::Port => 4,
+        Refusal::Time => 5,
+        Refusal::Flags => 6,
+        Refusal::NameInUse => 7,
+        Refusal::TableFull => 8,
+        Refusal::NoConnection => 9,
+        Refusal::Sequence => 10,
+        Refusal::Output => 11,
+        Refusal::Range => 12,
+        Refusal::NotStarted => 13,
+    }
+}
+
+// The number that a call answers: 0 where it is done.
+pub fn answer_number(c: Check) -> u8
+    ensures { λ r. ⌜ r ≡ answered c ⌝ }
+{
+    match c {
+        Check::Clear => 0,
+        Check::Refused(why) => number(why),
+    }
+}

@@ -1,0 +1,224 @@
+// The segments that are written: the listener's answer and the client's opening (RFC 9293, 3.1; RFC 7413, 4.1.1).
+//
+// A write leaves its bytes at the output's start and the later bytes as they were, and answers how many bytes it wrote. Where it
+// cannot be done, the output is too short or the addresses are not of one family, nothing is written and the answer is 0.
+use crate::checksum::add_bytes;
+use crate::checksum::is_one_family;
+use crate::checksum::pseudo_sum;
+use crate::sequence::next_after;
+ghost use mathlib.Core.Path.{_≡_};
+ghost use mathlib.Core.Bool.{Bool, true, cond};
+ghost use mathlib.Core.List.{_++_};
+ghost use Prim.Native.Nat.{_+_, _-_, _*_, _/_, _≤_, _<_};
+ghost use lib.ListN.{length, take, drop, replicate};
+ghost use Rattle.segment.specs.Checksum.{onesSum, complement, oneFamily, pseudoHeader};
+ghost use Rattle.segment.specs.Write.{padding, optionBytes, headerBytes, optionsFor, capped, canWrite, written, overwrite, answerBytes, openingBytes};
+
+// What a segment is to say, besides its cookie and its data. `fast`: with a Fast Open option.
+pub(crate) struct Outgoing {
+    pub source: u16,
+    pub dest: u16,
+    pub seq: u32,
+    pub ack: u32,
+    pub flags: u8,
+    pub mss: u16,
+    pub fast: bool,
+}
+
+// An answer: both initial numbers, how many bytes of data were accepted, and whether a fresh cookie goes with it.
+pub struct Answer {
+    pub source: u16,
+    pub dest: u16,
+    pub iss: u32,
+    pub irs: u32,
+    pub accepted: u32,
+    pub mss: u16,
+    pub fresh: bool,
+}
+
+// An opening: our initial number, and whether a Fast Open option goes with it.
+pub struct Opening {
+    pub source: u16,
+    pub dest: u16,
+    pub iss: u32,
+    pub mss: u16,
+    pub fast: bool,
+}
+
+// Puts bytes at a place, and says where they end.
+fn append(out: &mut [u8], at: usize, src: &[u8]) -> usize
+    requires { ⌜ at + length (now src) ≤ length (now out) ⌝ }
+    ensures { λ r. ⌜ (r ≡ at + length (now (src .entry))) × (now (out .exit) ≡ take at (now (out .entry)) ++ (now (src .entry) ++ drop (at + length (now (src .entry))) (now (out .entry)))) ⌝ }
+{
+    let n = bytes::copy(src, &mut out[at..]);
+    at + n
+}
+
+// Kind 1 up to a multiple of four.
+fn pad(out: &mut [u8], at: usize) -> usize
+    requires { ⌜ at + padding at ≤ length (now out) ⌝ }
+    ensures { λ r. ⌜ (r ≡ at + padding at) × (now (out .exit) ≡ take at (now (out .entry)) ++ (replicate (padding at) 1 ++ drop (at + padding at) (now (out .entry)))) ⌝ }
+{
+    let ones = [1u8, 1u8, 1u8];
+    let n = (4 - at % 4) % 4;
+    append(out, at, &ones[..n])
+}
+
+// The option writer, lent the output from byte 20.
+fn put_options(out: &mut [u8], mss: u16, fast: bool, cookie: &[u8]) -> usize
+    requires { ⌜ (length (optionBytes mss fast (now cookie)) ≤ 40) × (length (optionBytes mss fast (now cookie)) ≤ length (now out)) ⌝ }
+    ensures { λ r. ⌜ (r ≡ length (optionBytes mss fast (now (cookie .entry)))) × (now (out .exit) ≡ overwrite (optionBytes mss fast (now (cookie .entry))) (now (out .entry))) ⌝ }
+{
+    let size = [2, 4, (mss / 256 % 256) as u8, (mss % 256) as u8];
+    let a = append(out, 0, &size);
+    if !fast {
+        return a;
+    }
+    let kind = [34, (cookie.len() + 2) as u8];
+    let b = append(out, a, &kind);
+    let c = append(out, b, cookie);
+    pad(out, c)
+}
+
+// Options and payload, from byte 20 on. The data copier is lent the output after the header. Answers the length of the options.
+fn put_body(out: &mut [u8], f: Outgoing, cookie: &[u8], payload: &[u8]) -> usize
+    requires { ⌜ (length (optionsFor f (now cookie)) ≤ 40) × (20 + length (optionsFor f (now cookie)) + length (now payload) ≤ length (now out)) ⌝ }
+    ensures { λ r. ⌜ (r ≡ length (optionsFor f (now (cookie .entry)))) × (now (out .exit) ≡ take 20 (now (out .entry)) ++ (optionsFor f (now (cookie .entry)) ++ (now (payload .entry) ++ drop (20 + r + length (now (payload .entry))) (now (out .entry))))) ⌝ }
+{
+    let m = put_options(&mut out[20..], f.mss, f.fast, cookie);
+    let end = 20 + m;
+    bytes::copy(payload, &mut out[end..]);
+    m
+}
+
+fn header(f: Outgoing, words: u8, check: u16) -> [u8; 20]
+    requires { ⌜ words < 16 ⌝ }
+    ensures { λ r. ⌜ r ≡ headerBytes f words check ⌝ }
+{
+    [
+        (f.source / 256 % 256) as u8,
+        (f.source % 256) as u8,
+        (f.dest / 256 % 256) as u8,
+        (f.dest % 256) as u8,
+        (f.seq / 16777216 % 256) as u8,
+        (f.seq / 65536 % 256) as u8,
+        (f.seq / 256 % 256) as u8,
+        (f.seq % 256) as u8,
+        (f.ack / 16777216 % 256) as u8,
+        (f.ack / 65536 % 256) as u8,
+        (f.ack / 256 % 256) as u8,
+        (f.ack % 256) as u8,
+        words * 16,
+        f.flags,
+        255,
+        255,
+        (check / 256 % 256) as u8,
+        (check % 256) as u8,
+        0,
+        0,
+    ]
+}
+
+// The header of a segment of n bytes whose options and data stand from byte 20 on.
+fn put_header(out: &mut [u8], src: &[u8], dst: &[u8], f: Outgoing, words: u8, n: usize)
+    requires { ⌜ (oneFamily (now src) (now dst) ≡ true) × ((words < 16) × ((20 ≤ n) × (n ≤ length (now out)))) ⌝ }
+    ensures { λ _. ⌜ now (out .exit) ≡ headerBytes f words (complement (onesSum 0 (pseudoHeader (now (src .entry)) (now (dst .entry)) n ++ (headerBytes f words 0 ++ take (n - 20) (drop 20 (now (out .entry))))))) ++ drop 20 (now (out .entry)) ⌝ }
+{
+    let unsigned = header(f, words, 0);
+    let sum = add_bytes(add_bytes(pseudo_sum(src, dst, n), &unsigned), &out[20..n]);
+    let signed = header(f, words, 65535 - sum);
+    bytes::copy(&signed, out);
+}
+
+// The length of the options; 44 where they are longer than an option area.
+fn option_length(f: Outgoing, cookie: &[u8]) -> usize
+    ensures { λ r. ⌜ r ≡ capped (length (optionsFor f (now (cookie .entry)))) ⌝ }
+{
+    if !f.fast {
+        return 4;
+    }
+    let n = cookie.len();
+    if 34 < n {
+        return 44;
+    }
+    4 + (n + 5) / 4 * 4
+}
+
+// The length of a segment that can be written, else 0.
+fn writable(family: bool, options: usize, payload: usize, room: usize) -> usize
+    ensures { λ r. ⌜ r ≡ cond (canWrite family options payload room) (20 + options + payload) 0 ⌝ }
+{
+    if !family {
+        return 0;
+    }
+    if 40 < options {
+        return 0;
+    }
+    if 1500 - options < payload {
+        return 0;
+    }
+    let n = 20 + options + payload;
+    if room < n {
+        return 0;
+    }
+    n
+}
+
+fn write_segment(
+    out: &mut [u8],
+    src: &[u8],
+    dst: &[u8],
+    f: Outgoing,
+    cookie: &[u8],
+    payload: &[u8],
+) -> usize
+    ensures { λ r. ⌜ (r ≡ length (written (now (src .entry)) (now (dst .entry)) f (now (cookie .entry)) (now (payload .entry)) (length (now (out .entry))))) × (now (out .exit) ≡ overwrite (written (now (src .entry)) (now (dst .entry)) f (now (cookie .entry)) (now (payload .entry)) (length (now (out .entry)))) (now (out .entry))) ⌝ }
+{
+    let m = option_length(f, cookie);
+    let n = writable(is_one_family(src, dst), m, payload.len(), out.len());
+    if n == 0 {
+        return 0;
+    }
+    put_body(out, f, cookie, payload);
+    put_header(out, src, dst, f, ((20 + m) / 4) as u8, n);
+    n
+}
+
+// Writes the answer to an opening: 24 bytes, or 36 with a fresh cookie.
+pub fn write_answer(out: &mut [u8], src: &[u8], dst: &[u8], a: Answer, cookie: [u8; 8]) -> usize
+    ensures { λ r. ⌜ (r ≡ length (answerBytes (now (src .entry)) (now (dst .entry)) a cookie (length (now (out .entry))))) × (now (out .exit) ≡ overwrite (answerBytes (now (src .entry)) (now (dst .entry)) a cookie (length (now (out .entry)))) (now (out .entry))) ⌝ }
+{
+    let f = Outgoing {
+        source: a.source,
+        dest: a.dest,
+        seq: a.iss,
+        ack: next_after(a.irs, a.accepted),
+        flags: 18,
+        mss: a.mss,
+        fast: a.fresh,
+    };
+    write_segment(out, src, dst, f, &cookie, &src[..0])
+}
+
+// Writes an opening with its options and its payload.
+pub fn write_opening(
+    out: &mut [u8],
+    src: &[u8],
+    dst: &[u8],
+    o: Opening,
+    cookie: &[u8],
+    payload: &[u8],
+) -> usize
+    ensures { λ r. ⌜ (r ≡ length (openingBytes (now (src .entry)) (now (dst .entry)) o (now (cookie .entry)) (now (payload .entry)) (length (now (out .entry))))) × (now (out .exit) ≡ overwrite (openingBytes (now (src .entry)) (now (dst .entry)) o (now (cookie .entry)) (now (payload .entry)) (length (now (out .entry)))) (now (out .entry))) ⌝ }
+{
+    let f = Outgoing {
+        source: o.source,
+        dest: o.dest,
+        seq: o.iss,
+        ack: 0,
+        flags: 2,
+        mss: o.mss,
+        fast: o.fast,
+    };
+    write_segment(out, src, dst, f, cookie, payload)
+}
