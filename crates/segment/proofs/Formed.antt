@@ -1,13 +1,15 @@
--- What holds of a segment that is well formed. Assumes nothing.
+-- What holds of a segment that is well formed, and of its parts. Assumes nothing.
 use Prim.Native.Nat.{ℕ, _+_, _-_, _*_, _/_, _<_, _≤_}
 use mathlib.Core.Path.{_≡_, refl, ap, sym, _∙_}
 use mathlib.Core.Bool.{Bool, true, false, true≢false, _||_, cond}
-use mathlib.Core.List.{List}
+use mathlib.Core.List.{List, [], _++_}
 use native.Mathlib.Omega.{arith}
-use lib.ListN.{length, take, drop}
+use lib.ListN.{length, take, drop, length-take, take-append-drop}
+use lib.Seq.{drop-drop}
 use lib.Dec.{ltb}
 use borrow.Author.Tests.{ltb-false}
-use Rattle.segment.specs.Header.{malformed, offsetOf, headerLength}
+use Rattle.segment.specs.Bytes.{byteAt}
+use Rattle.segment.specs.Header.{malformed, offsetOf, headerLength, optionArea, payloadOf}
 
 or-false : (a b : Bool) → a || b ≡ false → (a ≡ false) × (b ≡ false)
 or-false true b e = absurd (true≢false e)
@@ -32,3 +34,31 @@ formed s e =
       offset = ltb-false (offsetOf s) 5 (c .0);
       inside = ltb-false (length s) (headerLength s) (c .1);
     }
+
+-- a malformed segment has no parts
+pub no-area : (s : List ℕ) → malformed s ≡ true → optionArea s ≡ []
+unfolding optionArea
+no-area s e = rw e
+
+pub no-payload : (s : List ℕ) → malformed s ≡ true → payloadOf s ≡ []
+unfolding payloadOf
+no-payload s e = rw e
+
+-- the first 20 bytes, the option area and the payload are the segment
+pub parts : (s : List ℕ) → malformed s ≡ false → take 20 s ++ (optionArea s ++ payloadOf s) ≡ s
+unfolding optionArea payloadOf
+parts s e =
+    let f = formed s e in
+    let h = headerLength s in
+    let n : 20 + (h - 20) ≡ h = omega arith in
+    let d : drop h s ≡ drop (h - 20) (drop 20 s) = sym (drop-drop (h - 20) 20 s ∙ ap (λ (k : ℕ). drop k s) n) in
+    rw (e, d, take-append-drop (h - 20) (drop 20 s), take-append-drop 20 s)
+
+-- the option area has at most 40 bytes: the offset is half a byte
+pub area-most : (s : List ℕ) → byteAt s 12 < 256 → length (optionArea s) ≤ 40
+unfolding optionArea
+area-most s h = go (malformed s)
+  where
+    go : (b : Bool) → length (cond b [] (take (headerLength s - 20) (drop 20 s))) ≤ 40
+    go true = omega arith
+    go false = omega (arith, length-take (headerLength s - 20) (drop 20 s))

@@ -3,5 +3,10 @@ pub mod Reading
 pub mod Sums
 pub mod Folding
 pub mod Family
+pub mod Cookie
 pub mod Writes
 pub mod Written
+pub mod Agreement
+pub mod Exchange
+pub mod Numbers
+pub mod Sixteen

@@ -1,0 +1,86 @@
+-- What is found in an option area: a cookie lies in it and has 4 to 16 bytes, an even number. Assumes nothing.
+use Prim.Native.Nat.{ℕ, zero, suc, _+_, _-_, _%_, _<_, _≤_}
+use mathlib.Core.Path.{_≡_, refl, ap, sym, _∙_}
+use mathlib.Core.Bool.{Bool, true, false, cond, _&&_}
+use mathlib.Core.List.{List, [], _∷_}
+use native.Mathlib.Omega.{arith}
+use lib.ListN.{length, take, drop, length-drop}
+use lib.Seq.{length-take-le}
+use lib.Dec.{eqb, leb}
+use borrow.Author.Tests.{leb-true, eqb-true}
+use Rattle.segment.specs.Bytes.{byteAt}
+use Rattle.segment.specs.Header.{has, SYN}
+use Rattle.segment.specs.declared.options.FastOpen.{FastOpen}
+use Rattle.segment.specs.declared.options.FastOpen.the-variants.{Absent, Request, Cookie}
+use Rattle.segment.specs.declared.options.Options.{Options}
+use Rattle.segment.specs.Options.{cookieLength, fastOpenOption, firstFastOpen, withOption, readFrom, readOptions, heeding, optionsOf, cookieBytes}
+use Rattle.segment.proofs.Family.{and-true}
+
+-- a cookie at a place of an area of n bytes
+pub record Inside (n at len : ℕ) : Type 0 where
+  pub fits : at + len ≤ n
+  pub least : 4 ≤ len
+  pub most : len ≤ 16
+  pub even : len % 2 ≡ 0
+
+abbrev pub AllInside : ℕ → FastOpen → Type 0
+AllInside n Absent = Unit {0}
+AllInside n Request = Unit {0}
+AllInside n (Cookie at len) = Inside n at len
+
+-- what holds of both choices holds of the one taken
+chosen : {A : Type 0} (P : A → Type 0) (t : Bool) (a b : A) → (t ≡ true → P a) → (t ≡ false → P b) → P (cond t a b)
+chosen P true a b f g = f refl
+chosen P false a b f g = g refl
+
+first-inside : (n : ℕ) (f g : FastOpen) → AllInside n f → AllInside n g → AllInside n (firstFastOpen f g)
+first-inside n Absent g p q = q
+first-inside n Request g p q = tt
+first-inside n (Cookie at len) g p q = p
+
+option-inside : (n kind i len : ℕ) → i + len ≤ n → AllInside n (fastOpenOption kind i len)
+unfolding fastOpenOption
+option-inside n kind i len h =
+    chosen (AllInside n) (eqb kind 34) _ _
+    (λ _. chosen (AllInside n) (eqb len 2) _ _ (λ _. tt)
+    (λ _. chosen (AllInside n) (cookieLength len) _ _ sized (λ _. tt)))
+    (λ _. tt)
+  where
+    sized : cookieLength len ≡ true → Inside n (i + 2) (len - 2)
+    sized e =
+        let a = and-true (leb 6 len) _ e in
+        let b = and-true (leb len 18) _ (a .1) in
+        let l = leb-true 6 len (a .0) in
+        let m = leb-true len 18 (b .0) in
+        let v = eqb-true (len % 2) 0 (b .1) in
+        record { fits = omega arith; least = omega arith; most = omega arith; even = omega arith }
+
+from-inside : (area : List ℕ) (i skip : ℕ) (rest : List ℕ) (found : Options) → i + length rest ≤ length area
+    → AllInside (length area) (found .fast) → AllInside (length area) (readFrom area i skip rest found .fast)
+unfolding readFrom withOption
+from-inside area i skip [] found h p = p
+from-inside area i (suc skip) (b ∷ rest) found h p = from-inside area (i + 1) skip rest found (omega arith) p
+from-inside area i zero (kind ∷ rest) found h p =
+    let Q : Options → Type 0 = λ o. AllInside (length area) (o .fast) in
+    let len = byteAt rest 0 in
+    chosen Q (eqb kind 0) _ _ (λ _. p)
+    (λ _. chosen Q (eqb kind 1) _ _ (λ _. from-inside area (i + 1) 0 rest found (omega arith) p)
+    (λ _. chosen Q (leb 2 len && leb len (length rest + 1)) _ _
+    (λ e.
+    let b = leb-true len (length rest + 1) (and-true (leb 2 len) _ e .1) in
+    from-inside area (i + 1) (len - 1) rest (withOption found area i len) (omega arith)
+    (first-inside (length area) (found .fast) _ p (option-inside (length area) (byteAt area i) i len (omega arith))))
+    (λ _. p)))
+
+pub inside : (area : List ℕ) → AllInside (length area) (readOptions area .fast)
+unfolding readOptions
+inside area = from-inside area 0 0 area _ (omega arith) tt
+
+-- so it has as many bytes as its length says
+pub cookie-bytes : (area : List ℕ) (at len : ℕ) → Inside (length area) at len → length (cookieBytes (Cookie at len) area) ≡ len
+cookie-bytes area at len h = length-take-le len (drop at area) (omega (arith, length-drop at area))
+
+-- of a segment without SYN no Fast Open option counts
+pub no-syn : (seg : List ℕ) → has (byteAt seg 13) SYN ≡ false → optionsOf seg .fast ≡ Absent
+unfolding optionsOf
+no-syn seg e = rw e

@@ -1,0 +1,83 @@
+-- Document 01, "The table of sixteen": the rows that speak of this crate's definitions, computed. Assumes nothing.
+use Prim.Native.Nat.{ℕ, _≤_}
+use mathlib.Core.Path.{_≡_, refl}
+use mathlib.Core.Bool.{true, false}
+use mathlib.Core.List.{List, [], _∷_}
+use borrow.Author.Tests.{le-leb}
+use Rattle.segment.specs.Sequence.{nextAfter, past, inWindow}
+use Rattle.segment.specs.Options.{nothing, mssOption, fastOpenOption, withOption, readFrom, readOptions}
+use Rattle.segment.specs.Checksum.{onesAdd, onesSum, pseudoHeader, segmentSum}
+use Rattle.segment.specs.Write.{optionBytes, headerBytes, segmentWith, segmentBytes, canWrite, written, answerBytes}
+use Rattle.segment.specs.declared.options.Mss.the-variants.{Unseen, Is}
+use Rattle.segment.specs.declared.options.FastOpen.{FastOpen}
+use Rattle.segment.specs.declared.options.FastOpen.the-variants.{Absent, Request, Cookie}
+use Rattle.segment.specs.declared.options.Options.{Options}
+
+-- 1, 2: acknowledgements
+pub row1 : nextAfter 4294967295 0 ≡ 0
+unfolding nextAfter
+row1 = refl
+
+pub row2 : nextAfter 4294967290 10 ≡ 5
+unfolding nextAfter
+row2 = refl
+
+-- 3 to 5: the window of a completion
+pub row3 : inWindow 5 65539 ≡ true
+unfolding inWindow past
+row3 = refl
+
+pub row4 : inWindow 5 65540 ≡ false
+unfolding inWindow past
+row4 = refl
+
+pub row5 : inWindow 5 4 ≡ false
+unfolding inWindow past
+row5 = refl
+
+-- nothing but a Fast Open option
+abbrev pub only : FastOpen → Options
+only f = record { mss = Unseen; fast = f }
+
+-- 6: a request
+pub row6 : readOptions (34 ∷ 2 ∷ []) ≡ only Request
+unfolding readOptions readFrom withOption mssOption fastOpenOption
+row6 = refl
+
+-- 7, 8: skipped. Nothing is found, and a request that follows is.
+pub row7 : (readOptions (34 ∷ 3 ∷ 0 ∷ []) ≡ nothing) × (readOptions (34 ∷ 3 ∷ 0 ∷ 34 ∷ 2 ∷ []) ≡ only Request)
+unfolding readOptions readFrom withOption mssOption fastOpenOption
+row7 = (refl, refl)
+
+pub row8 : (readOptions (34 ∷ 4 ∷ 1 ∷ 2 ∷ []) ≡ nothing) × (readOptions (34 ∷ 4 ∷ 1 ∷ 2 ∷ 34 ∷ 2 ∷ []) ≡ only Request)
+unfolding readOptions readFrom withOption mssOption fastOpenOption
+row8 = (refl, refl)
+
+-- 9, 10: the shortest cookie and the longest, whatever their bytes
+pub row9 : (a b c d : ℕ) → readOptions (34 ∷ 6 ∷ a ∷ b ∷ c ∷ d ∷ []) ≡ only (Cookie 2 4)
+unfolding readOptions readFrom withOption mssOption fastOpenOption
+row9 a b c d = refl
+
+pub row10 : (a b c d e f g h i j k l m n o p : ℕ)
+    → readOptions (34 ∷ 18 ∷ a ∷ b ∷ c ∷ d ∷ e ∷ f ∷ g ∷ h ∷ i ∷ j ∷ k ∷ l ∷ m ∷ n ∷ o ∷ p ∷ []) ≡ only (Cookie 2 16)
+unfolding readOptions readFrom withOption mssOption fastOpenOption
+row10 a b c d e f g h i j k l m n o p = refl
+
+-- 11: reading ends, whatever follows
+pub row11 : (rest : List ℕ) → readOptions (34 ∷ 0 ∷ rest) ≡ nothing
+unfolding readOptions readFrom
+row11 rest = refl
+
+-- 12: reading ends at the last byte
+pub row12 : readOptions (34 ∷ []) ≡ nothing
+unfolding readOptions readFrom
+row12 = refl
+
+-- 16: the answer's bytes, in any output that has room for them
+pub row16 : (cookie : List ℕ) (room : ℕ) → 24 ≤ room
+    → answerBytes (192 ∷ 0 ∷ 2 ∷ 2 ∷ []) (192 ∷ 0 ∷ 2 ∷ 1 ∷ [])
+    (record { source = 443; dest = 40000; iss = 1000; irs = 4294967295; accepted = 0; mss = 1460; fresh = false }) cookie room
+    ≡ 0x01 ∷ 0xBB ∷ 0x9C ∷ 0x40 ∷ 0x00 ∷ 0x00 ∷ 0x03 ∷ 0xE8 ∷ 0x00 ∷ 0x00 ∷ 0x00 ∷ 0x00 ∷ 0x60 ∷ 0x12 ∷ 0xFF ∷ 0xFF
+    ∷ 0x72 ∷ 0x2F ∷ 0x00 ∷ 0x00 ∷ 0x02 ∷ 0x04 ∷ 0x05 ∷ 0xB4 ∷ []
+unfolding answerBytes written canWrite nextAfter segmentBytes segmentWith segmentSum headerBytes pseudoHeader optionBytes onesSum onesAdd
+row16 cookie room h = rw (le-leb 24 room h)
