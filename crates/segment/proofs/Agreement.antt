@@ -1,31 +1,30 @@
 -- Reading back what was written: the fields, the options, the payload, and a checksum that is right. Assumes nothing.
 use Prim.Native.Nat.{ℕ, zero, suc, _+_, _-_, _*_, _/_, _%_, _<_, _≤_}
-use mathlib.Core.Path.{_≡_, refl, ap, sym, _∙_, subst}
-use mathlib.Core.Bool.{Bool, true, false, cond, _&&_, _||_}
+use mathlib.Core.Path.{_≡_, refl, ap, ap₂, sym, _∙_, subst}
+use mathlib.Core.Bool.{Bool, true, false, not, _||_}
 use mathlib.Core.List.{List, [], _∷_, _++_, append-assoc}
-use native.Mathlib.Nat.{add-zero}
 use native.Mathlib.Omega.{arith}
-use lib.ListN.{length, take, drop, replicate, length-append, length-replicate}
+use lib.ListN.{length, drop, replicate, length-append}
 use lib.Seq.{take-at, drop-at, drop-drop}
-use lib.Dec.{leb, eqb}
+use lib.Dec.{eqb}
 use borrow.Author.Tests.{le-leb, le-ltb, ne-eqb}
 use Rattle.segment.specs.Bytes.{byteAt, be16, be32, word, long}
 use Rattle.segment.specs.Header.{SYN, has, malformed, offsetOf, headerLength, fieldsOf, shapeOf, optionArea, payloadOf}
-use Rattle.segment.specs.Options.{nothing, turn, mssOption, fastOpenOption, withOption, readFrom, readOptions, heeding, optionsOf, cookieBytes}
-use Rattle.segment.specs.Checksum.{onesSum, complement, oneFamily, pseudoHeader, segmentSum, checksumRight}
-use Rattle.segment.specs.Write.{padding, mssBytes, fastOpenBytes, optionBytes, headerBytes, segmentWith, segmentBytes, canWrite, optionsFor, written}
+use Rattle.segment.specs.Options.{nothing, mssOption, fastOpenOption, withOption, readFrom, readOptions, optionsOf, cookieBytes}
+use Rattle.segment.specs.Checksum.{onesSum, complement, pseudoHeader, segmentSum, checksumRight}
+use Rattle.segment.specs.Write.{padding, mssBytes, fastOpenBytes, optionBytes, headerBytes, segmentWith, segmentBytes, cookieSize, optionsFor, lengthFor, canWrite, written}
 use Rattle.segment.specs.declared.header.Header.{Header}
-use Rattle.segment.specs.declared.header.Shape.the-variants.{Malformed, WellFormed}
-use Rattle.segment.specs.declared.options.Mss.the-variants.{Unseen, Is}
+use Rattle.segment.specs.declared.header.Shape.the-variants.{WellFormed}
+use Rattle.segment.specs.declared.options.Mss.the-variants.{Given}
 use Rattle.segment.specs.declared.options.FastOpen.{FastOpen}
 use Rattle.segment.specs.declared.options.FastOpen.the-variants.{Absent, Request, Cookie}
 use Rattle.segment.specs.declared.options.Options.{Options}
 use Rattle.segment.specs.declared.write.Outgoing.{Outgoing}
-use Rattle.segment.proofs.Reading.{readAt, turned}
-use Rattle.segment.proofs.Folding.{Bytes, bytes-append, sealed}
+use Rattle.segment.proofs.Reading.{readAt, one-step}
+use Rattle.segment.proofs.Folding.{Bytes, bytes-append, sum-with-complement}
 use Rattle.segment.proofs.Family.{family, pseudo-even, pseudo-bytes}
 use Rattle.segment.proofs.Writes.{options-plain, options-fast}
-use Rattle.segment.proofs.Written.{Writable, writable, with-length, segment-length}
+use Rattle.segment.proofs.Written.{Writable, writable, cookie-sized, options-most, with-length}
 
 -- A number written and read is the number, if it fits its bytes.
 pub back16 : (x : ℕ) → x < 65536 → word (x / 256 % 256) (x % 256) ≡ x
@@ -44,15 +43,24 @@ unfolding readFrom
 padding-read area i zero found = refl
 padding-read area i (suc n) found = padding-read area (i + 1) n found
 
--- what the reader finds in a written option area without a Fast Open option
-options-back-plain : (mss : ℕ) (cookie : List ℕ) → mss < 65536 → readOptions (optionBytes mss false cookie) ≡ record { mss = Is mss; fast = Absent }
-unfolding readOptions readFrom withOption mssOption fastOpenOption optionBytes
-options-back-plain mss cookie h = rw (back16 mss h)
+-- the options of a written area: the MSS, and nothing, a request or a cookie by its place and length
+abbrev pub fastOpenFor : Bool → List ℕ → FastOpen
+fastOpenFor false cookie = Absent
+fastOpenFor true [] = Request
+fastOpenFor true (b ∷ rest) = Cookie 6 (suc (length rest))
 
--- and in one with it, whatever the length of the cookie
-options-back : (mss : ℕ) (cookie : List ℕ) → mss < 65536 → readOptions (optionBytes mss true cookie) ≡ record { mss = Is mss; fast = fastOpenOption 34 4 (length cookie + 2) }
+abbrev pub foundFor : ℕ → Bool → List ℕ → Options
+foundFor mss fast cookie = record { mss = Given mss; fast = fastOpenFor fast cookie }
+
+without-fast-open : (mss : ℕ) (cookie : List ℕ) → mss < 65536 → readOptions (optionBytes mss false cookie) ≡ record { mss = Given mss; fast = Absent }
+unfolding readOptions readFrom withOption mssOption fastOpenOption optionBytes
+without-fast-open mss cookie h = rw (back16 mss h)
+
+-- with a Fast Open option the reader comes to it and then to the padding, whatever the cookie's length
+with-fast-open : (mss : ℕ) (cookie : List ℕ) → mss < 65536
+    → readOptions (optionBytes mss true cookie) ≡ record { mss = Given mss; fast = fastOpenOption (optionBytes mss true cookie) 4 (length cookie + 2) }
 unfolding readOptions withOption mssOption fastOpenOption optionBytes
-options-back mss cookie h =
+with-fast-open mss cookie h =
     let area = optionBytes mss true cookie in
     let pad = replicate {A = ℕ} (padding (length (mssBytes mss ++ fastOpenBytes cookie))) 1 in
     let len = length cookie + 2 in
@@ -61,42 +69,39 @@ options-back mss cookie h =
     let found₁ = withOption nothing area 0 4 in
     let found₂ = withOption found₁ area 4 len in
     let e₁ : readAt area 0 nothing ≡ readAt area 4 found₁ =
-    turned area 0 nothing (omega arith) ∙ rw (le-leb 4 (length area - 0) (omega arith)) in
+    one-step area 0 nothing (omega arith) ∙ rw (le-leb 4 (length area - 0) (omega arith)) in
     let e₂ : readAt area 4 found₁ ≡ readAt area (5 + (len - 1)) found₂ =
-    turned area 4 found₁ (omega arith) ∙ rw (le-leb 2 len (omega arith), le-leb len (length area - 4) (omega arith)) in
+    one-step area 4 found₁ (omega arith) ∙ rw (le-leb 2 len (omega arith), le-leb len (length area - 4) (omega arith)) in
     let p : 5 + (len - 1) ≡ 6 + length cookie = omega arith in
     let d : drop (6 + length cookie) area ≡ pad = drop-at (mssBytes mss ++ fastOpenBytes cookie) pad (6 + length cookie) (omega arith) in
     let e₃ : readAt area (5 + (len - 1)) found₂ ≡ found₂ =
-    ap (λ (j : ℕ). readAt area j found₂) p ∙ ap (λ (t : List ℕ). readFrom area (6 + length cookie) 0 t found₂) d ∙ padding-read area (6 + length cookie) (padding (length (mssBytes mss ++ fastOpenBytes cookie))) found₂ in
+    ap (λ (j : ℕ). readAt area j found₂) p ∙ ap (λ (t : List ℕ). readFrom area (6 + length cookie) 0 t found₂) d
+    ∙ padding-read area (6 + length cookie) (padding (length (mssBytes mss ++ fastOpenBytes cookie))) found₂ in
     e₁ ∙ e₂ ∙ e₃ ∙ rw (back16 mss h)
 
--- the Fast Open option that stands in a written option area
-abbrev pub putThere : Bool → List ℕ → FastOpen
-putThere false cookie = Absent
-putThere true cookie = fastOpenOption 34 4 (length cookie + 2)
-
-pub found-there : (mss : ℕ) (fast : Bool) (cookie : List ℕ) → mss < 65536 → readOptions (optionBytes mss fast cookie) ≡ record { mss = Is mss; fast = putThere fast cookie }
-found-there mss false cookie h = options-back-plain mss cookie h
-found-there mss true cookie h = options-back mss cookie h
-
--- It is a request where the cookie is empty, and a cookie by its place and length where that has 4 to 16 bytes, an even number.
-pub request-there : putThere true [] ≡ Request
-unfolding fastOpenOption
-request-there = refl
-
-pub cookie-there : (cookie : List ℕ) → 4 ≤ length cookie → length cookie ≤ 16 → length cookie % 2 ≡ 0 → putThere true cookie ≡ Cookie 6 (length cookie)
-unfolding fastOpenOption
-cookie-there cookie low high even =
-    let n = length cookie in
-    let t : eqb (n + 2) 2 ≡ false = ne-eqb (n + 2) 2 (λ e. omega arith) in
+-- there it counts, if an option may have such a cookie
+counted : (mss : ℕ) (cookie : List ℕ) → cookieSize (length cookie) ≡ true → fastOpenOption (optionBytes mss true cookie) 4 (length cookie + 2) ≡ fastOpenFor true cookie
+unfolding fastOpenOption optionBytes
+counted mss [] e = refl
+counted mss (b ∷ rest) e =
+    let n = suc (length rest) in
+    let s = cookie-sized (length rest) e in
+    let t : eqb (n + 2) 2 ≡ false = ne-eqb (n + 2) 2 (λ q. omega arith) in
     let v : (n + 2) % 2 ≡ 0 = omega arith in
     let m : n + 2 - 2 ≡ n = omega arith in
     rw (t, le-leb 6 (n + 2) (omega arith), le-leb (n + 2) 18 (omega arith), v, m)
 
--- and its bytes are the cookie's
-pub cookie-bytes-there : (mss : ℕ) (cookie : List ℕ) → cookieBytes (Cookie 6 (length cookie)) (optionBytes mss true cookie) ≡ cookie
+-- the law: the reader finds in a written option area just what was put there
+pub options-back : (mss : ℕ) (fast : Bool) (cookie : List ℕ) → mss < 65536 → not fast || cookieSize (length cookie) ≡ true
+    → readOptions (optionBytes mss fast cookie) ≡ foundFor mss fast cookie
+options-back mss false cookie h e = without-fast-open mss cookie h
+options-back mss true cookie h e = with-fast-open mss cookie h ∙ ap (λ (f : FastOpen). record { mss = Given mss; fast = f }) (counted mss cookie e)
+
+-- and the bytes of the cookie
+cookie-back : (mss : ℕ) (cookie : List ℕ) → cookieBytes (fastOpenFor true cookie) (optionBytes mss true cookie) ≡ cookie
 unfolding optionBytes
-cookie-bytes-there mss cookie = take-at cookie _ (length cookie) refl
+cookie-back mss [] = refl
+cookie-back mss (b ∷ rest) = take-at (b ∷ rest) _ (suc (length rest)) refl
 
 -- Segments
 
@@ -137,7 +142,7 @@ ones-bytes : (n : ℕ) → Bytes (replicate n 1)
 ones-bytes zero = tt
 ones-bytes (suc n) = (omega arith, ones-bytes n)
 
-options-bytes : (mss : ℕ) (fast : Bool) (cookie : List ℕ) → length (optionBytes mss fast cookie) ≤ 40 → Bytes cookie → Bytes (optionBytes mss fast cookie)
+options-bytes : (mss : ℕ) (fast : Bool) (cookie : List ℕ) → length (optionBytes mss fast cookie) ≤ 24 → Bytes cookie → Bytes (optionBytes mss fast cookie)
 unfolding optionBytes
 options-bytes mss false cookie h b = omega arith
 options-bytes mss true cookie h b =
@@ -145,16 +150,17 @@ options-bytes mss true cookie h b =
     let l : length cookie + 2 < 256 = omega (arith, length-append cookie (replicate {A = ℕ} n 1)) in
     (omega arith, (omega arith, (omega arith, (omega arith, (omega arith, (l, bytes-append cookie (replicate n 1) b (ones-bytes n)))))))
 
--- What is read from a segment that was written
+-- what is read from a segment that was written
 pub record ReadBack (src dst : List ℕ) (f : Outgoing) (cookie payload seg : List ℕ) : Type 0 where
   pub shape : shapeOf seg ≡ WellFormed (headerOf f (length (optionsFor f cookie)))
+  pub flags : byteAt seg 13 ≡ f .flags
   pub area : optionArea seg ≡ optionsFor f cookie
   pub rest : payloadOf seg ≡ payload
-  pub flags : byteAt seg 13 ≡ f .flags
   pub right : checksumRight src dst seg ≡ true
+  pub size : length seg ≡ lengthFor f cookie payload
 
 module _ (src dst : List ℕ) (f : Outgoing) (cookie payload : List ℕ) (room : ℕ)
-    (w : Writable (oneFamily src dst) (length (optionsFor f cookie)) (length payload) room) where
+    (w : Writable src dst f cookie payload room) where
   well-formed : (check : ℕ) → malformed (segmentWith f check (optionsFor f cookie) payload) ≡ false
   unfolding malformed
   well-formed check =
@@ -190,15 +196,15 @@ module _ (src dst : List ℕ) (f : Outgoing) (cookie payload : List ℕ) (room :
 
   before-bytes : f .flags < 256 → Bytes before
   unfolding before
-  before-bytes h = omega arith
+  before-bytes h = omega (arith, options-most (f .mss) (f .fast) cookie (w .sized))
 
   -- the sum over a segment with a checksum, the field set apart
   sum-apart : (check : ℕ) → segmentSum src dst (segmentWith f check (optionsFor f cookie) payload)
-      ≡ onesSum 0 ((pseudoHeader src dst (20 + length (optionsFor f cookie) + length payload) ++ before) ++ (be16 check ++ (0 ∷ 0 ∷ (optionsFor f cookie ++ payload))))
+      ≡ onesSum 0 ((pseudoHeader src dst (lengthFor f cookie payload) ++ before) ++ (be16 check ++ (0 ∷ 0 ∷ (optionsFor f cookie ++ payload))))
   unfolding segmentSum before segmentWith headerBytes
   sum-apart check =
       let o = optionsFor f cookie in
-      let p = pseudoHeader src dst (20 + length o + length payload) in
+      let p = pseudoHeader src dst (lengthFor f cookie payload) in
       rw (with-length f check o payload) (ap (onesSum 0) (sym (append-assoc p before (be16 check ++ (0 ∷ 0 ∷ (o ++ payload))))))
 
   sum-full : Bytes src → Bytes dst → Bytes cookie → Bytes payload → f .flags < 256
@@ -206,37 +212,45 @@ module _ (src dst : List ℕ) (f : Outgoing) (cookie payload : List ℕ) (room :
   unfolding segmentBytes before
   sum-full bs bd bc bp hf =
       let o = optionsFor f cookie in
-      let n = 20 + length o + length payload in
+      let n = lengthFor f cookie payload in
       let p = pseudoHeader src dst n in
       let v : length (p ++ before) % 2 ≡ 0 = omega (arith, length-append p before, pseudo-even src dst n (family src dst (w .one))) in
       sum-apart (complement (segmentSum src dst (segmentWith f 0 o payload)))
       ∙ ap (λ (x : ℕ). onesSum 0 ((p ++ before) ++ (be16 (complement x) ++ (0 ∷ 0 ∷ (o ++ payload))))) (sum-apart 0)
-      ∙ sealed (p ++ before) (0 ∷ 0 ∷ (o ++ payload)) v
+      ∙ sum-with-complement (p ++ before) (0 ∷ 0 ∷ (o ++ payload)) v
       (bytes-append p before (pseudo-bytes src dst n bs bd) (before-bytes hf))
-      (omega arith, (omega arith, bytes-append o payload (options-bytes (f .mss) (f .fast) cookie (w .area) bc) bp))
+      (omega arith, (omega arith, bytes-append o payload (options-bytes (f .mss) (f .fast) cookie (options-most (f .mss) (f .fast) cookie (w .sized)) bc) bp))
 
 -- the law: what is read from a segment that was written is what was written, and its checksum is right
-pub read-back : (src dst : List ℕ) (f : Outgoing) (cookie payload : List ℕ) (room : ℕ)
-    → canWrite (oneFamily src dst) (length (optionsFor f cookie)) (length payload) room ≡ true
+pub read-back : (src dst : List ℕ) (f : Outgoing) (cookie payload : List ℕ) (room : ℕ) → canWrite src dst f cookie payload room ≡ true
     → Fits f → Bytes src → Bytes dst → Bytes cookie → Bytes payload
     → ReadBack src dst f cookie payload (written src dst f cookie payload room)
 unfolding written segmentBytes shapeOf checksumRight
 read-back src dst f cookie payload room can h bs bd bc bp =
-    let w = writable (oneFamily src dst) _ (length payload) room can in
+    let w = writable src dst f cookie payload room can in
     let o = optionsFor f cookie in
     let check = complement (segmentSum src dst (segmentWith f 0 o payload)) in
     let e : written src dst f cookie payload room ≡ segmentWith f check o payload = rw can in
     subst (ReadBack src dst f cookie payload) (sym e)
     (record {
       shape = rw (well-formed src dst f cookie payload room w check, fields-back f check o payload h);
+      flags = flags-back f check o payload;
       area = area-back src dst f cookie payload room w check;
       rest = payload-back src dst f cookie payload room w check;
-      flags = flags-back f check o payload;
       right = rw (w .one, sum-full src dst f cookie payload room w bs bd bc bp (h .flags));
+      size = with-length f check o payload;
     })
 
 -- its options count as they were put there, if it has the SYN flag
 pub options-counted : (src dst : List ℕ) (f : Outgoing) (cookie payload seg : List ℕ) → ReadBack src dst f cookie payload seg
-    → f .mss < 65536 → has (f .flags) SYN ≡ true → optionsOf seg ≡ record { mss = Is (f .mss); fast = putThere (f .fast) cookie }
+    → f .mss < 65536 → not (f .fast) || cookieSize (length cookie) ≡ true → has (f .flags) SYN ≡ true → optionsOf seg ≡ foundFor (f .mss) (f .fast) cookie
 unfolding optionsOf
-options-counted src dst f cookie payload seg b h e = rw (b .flags, e, b .area) (found-there (f .mss) (f .fast) cookie h)
+options-counted src dst f cookie payload seg b h s e = rw (b .flags, e, b .area) (options-back (f .mss) (f .fast) cookie h s)
+
+-- and so do the bytes of its cookie
+pub cookie-counted : (src dst : List ℕ) (f : Outgoing) (cookie payload seg : List ℕ) → ReadBack src dst f cookie payload seg
+    → optionsOf seg ≡ foundFor (f .mss) (f .fast) cookie → f .fast ≡ true → cookieBytes (optionsOf seg .fast) (optionArea seg) ≡ cookie
+cookie-counted src dst f cookie payload seg b o e =
+    ap₂ (λ (found : Options) (area : List ℕ). cookieBytes (found .fast) area) o (b .area)
+    ∙ ap (λ (t : Bool). cookieBytes (fastOpenFor t cookie) (optionBytes (f .mss) t cookie)) e
+    ∙ cookie-back (f .mss) cookie

@@ -1,19 +1,19 @@
 -- What is found in an option area: a cookie lies in it and has 4 to 16 bytes, an even number. Assumes nothing.
-use Prim.Native.Nat.{ℕ, zero, suc, _+_, _-_, _%_, _<_, _≤_}
-use mathlib.Core.Path.{_≡_, refl, ap, sym, _∙_}
+use Prim.Native.Nat.{ℕ, zero, suc, _+_, _-_, _%_, _≤_}
+use mathlib.Core.Path.{_≡_, refl}
 use mathlib.Core.Bool.{Bool, true, false, cond, _&&_}
 use mathlib.Core.List.{List, [], _∷_}
 use native.Mathlib.Omega.{arith}
-use lib.ListN.{length, take, drop, length-drop}
+use lib.ListN.{length, drop, length-drop}
 use lib.Seq.{length-take-le}
 use lib.Dec.{eqb, leb}
 use borrow.Author.Tests.{leb-true, eqb-true}
 use Rattle.segment.specs.Bytes.{byteAt}
-use Rattle.segment.specs.Header.{has, SYN}
+use Rattle.segment.specs.Header.{has, SYN, optionArea}
 use Rattle.segment.specs.declared.options.FastOpen.{FastOpen}
 use Rattle.segment.specs.declared.options.FastOpen.the-variants.{Absent, Request, Cookie}
 use Rattle.segment.specs.declared.options.Options.{Options}
-use Rattle.segment.specs.Options.{cookieLength, fastOpenOption, firstFastOpen, withOption, readFrom, readOptions, heeding, optionsOf, cookieBytes}
+use Rattle.segment.specs.Options.{cookieLength, fastOpenOption, firstFastOpen, withOption, readFrom, readOptions, ifSyn, optionsOf, cookieBytes}
 use Rattle.segment.proofs.Family.{and-true}
 
 -- a cookie at a place of an area of n bytes
@@ -38,10 +38,10 @@ first-inside n Absent g p q = q
 first-inside n Request g p q = tt
 first-inside n (Cookie at len) g p q = p
 
-option-inside : (n kind i len : ℕ) → i + len ≤ n → AllInside n (fastOpenOption kind i len)
+option-inside : (n : ℕ) (area : List ℕ) (i len : ℕ) → i + len ≤ n → AllInside n (fastOpenOption area i len)
 unfolding fastOpenOption
-option-inside n kind i len h =
-    chosen (AllInside n) (eqb kind 34) _ _
+option-inside n area i len h =
+    chosen (AllInside n) (eqb (byteAt area i) 34) _ _
     (λ _. chosen (AllInside n) (eqb len 2) _ _ (λ _. tt)
     (λ _. chosen (AllInside n) (cookieLength len) _ _ sized (λ _. tt)))
     (λ _. tt)
@@ -69,7 +69,7 @@ from-inside area i zero (kind ∷ rest) found h p =
     (λ e.
     let b = leb-true len (length rest + 1) (and-true (leb 2 len) _ e .1) in
     from-inside area (i + 1) (len - 1) rest (withOption found area i len) (omega arith)
-    (first-inside (length area) (found .fast) _ p (option-inside (length area) (byteAt area i) i len (omega arith))))
+    (first-inside (length area) (found .fast) _ p (option-inside (length area) area i len (omega arith))))
     (λ _. p)))
 
 pub inside : (area : List ℕ) → AllInside (length area) (readOptions area .fast)
@@ -84,3 +84,12 @@ cookie-bytes area at len h = length-take-le len (drop at area) (omega (arith, le
 pub no-syn : (seg : List ℕ) → has (byteAt seg 13) SYN ≡ false → optionsOf seg .fast ≡ Absent
 unfolding optionsOf
 no-syn seg e = rw e
+
+-- and of any segment the cookie that counts lies in its option area
+pub inside-segment : (seg : List ℕ) → AllInside (length (optionArea seg)) (optionsOf seg .fast)
+unfolding optionsOf
+inside-segment seg = go (has (byteAt seg 13) SYN)
+  where
+    go : (b : Bool) → AllInside (length (optionArea seg)) (ifSyn b (readOptions (optionArea seg)) .fast)
+    go true = inside (optionArea seg)
+    go false = tt

@@ -1,6 +1,6 @@
 -- The value of a sum whose carries are put off, and a checksum that is right by its making. Assumes nothing.
-use Prim.Native.Nat.{ℕ, zero, suc, _+_, _-_, _*_, _/_, _%_, _<_, _≤_}
-use mathlib.Core.Path.{_≡_, refl, ap, sym, _∙_}
+use Prim.Native.Nat.{ℕ, suc, _+_, _-_, _*_, _/_, _%_, _<_}
+use mathlib.Core.Path.{_≡_, ap, sym, _∙_}
 use mathlib.Core.List.{List, [], _∷_, _++_}
 use native.Mathlib.Nat.{add-zero, add-assoc}
 use native.Mathlib.Omega.{arith}
@@ -74,10 +74,10 @@ pub sum-word : (s : List ℕ) → Bytes s → onesSum 0 s < 65536
 sum-word s b = sum-small 0 s (omega arith) b
 
 -- where a word of zeros gives way to the complement of the sum, the sum is 65535
-pub sealed : (a b : List ℕ) → length a % 2 ≡ 0 → Bytes a → Bytes b →
+pub sum-with-complement : (a b : List ℕ) → length a % 2 ≡ 0 → Bytes a → Bytes b →
     onesSum 0 (a ++ (be16 (complement (onesSum 0 (a ++ (be16 0 ++ b)))) ++ b)) ≡ 65535
 unfolding total
-sealed a b h p q =
+sum-with-complement a b h p q =
     let z = onesSum 0 (a ++ (0 ∷ 0 ∷ b)) in
     let x = complement z / 256 % 256 in
     let y = complement z % 256 in

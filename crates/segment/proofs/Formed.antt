@@ -1,5 +1,5 @@
 -- What holds of a segment that is well formed, and of its parts. Assumes nothing.
-use Prim.Native.Nat.{ℕ, _+_, _-_, _*_, _/_, _<_, _≤_}
+use Prim.Native.Nat.{ℕ, _+_, _-_, _<_, _≤_}
 use mathlib.Core.Path.{_≡_, refl, ap, sym, _∙_}
 use mathlib.Core.Bool.{Bool, true, false, true≢false, _||_, cond}
 use mathlib.Core.List.{List, [], _++_}
@@ -9,7 +9,9 @@ use lib.Seq.{drop-drop}
 use lib.Dec.{ltb}
 use borrow.Author.Tests.{ltb-false}
 use Rattle.segment.specs.Bytes.{byteAt}
-use Rattle.segment.specs.Header.{malformed, offsetOf, headerLength, optionArea, payloadOf}
+use Rattle.segment.specs.Header.{malformed, offsetOf, headerLength, fieldsOf, shapeOf, shapeCheck, optionArea, payloadOf}
+use Rattle.segment.specs.Refusal.{answered}
+use Rattle.segment.specs.declared.header.Shape.the-variants.{Malformed, WellFormed}
 
 or-false : (a b : Bool) → a || b ≡ false → (a ≡ false) × (b ≡ false)
 or-false true b e = absurd (true≢false e)
@@ -62,3 +64,12 @@ area-most s h = go (malformed s)
     go : (b : Bool) → length (cond b [] (take (headerLength s - 20) (drop 20 s))) ≤ 40
     go true = omega arith
     go false = omega (arith, length-take (headerLength s - 20) (drop 20 s))
+
+-- the number of a shape is 1 where the segment is malformed, else 0
+pub shape-number : (s : List ℕ) → answered (shapeCheck (shapeOf s)) ≡ cond (malformed s) 1 0
+unfolding shapeOf
+shape-number s = go (malformed s)
+  where
+    go : (b : Bool) → answered (shapeCheck (cond b Malformed (WellFormed (fieldsOf s)))) ≡ cond b 1 0
+    go true = refl
+    go false = refl

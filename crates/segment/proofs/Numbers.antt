@@ -1,11 +1,15 @@
 -- The refusals' numbers and their order. Assumes nothing.
 use Prim.Native.Nat.{ℕ, _-_}
 use mathlib.Core.Path.{_≡_, refl, ap, sym, _∙_}
-use mathlib.Core.List.{List, [], _∷_, map}
+use mathlib.Core.Bool.{true, false}
+use mathlib.Core.List.{List, [], _∷_, _++_, map}
+use native.Mathlib.Omega.{arith}
 use lib.ListN.{getD}
-use Rattle.segment.specs.Refusal.{numberOf, order}
+use Rattle.segment.specs.Refusal.{numberOf, order, Checks, applies, firstOf, answered}
 use Rattle.segment.specs.declared.refusal.Refusal.{Refusal}
-use Rattle.segment.specs.declared.refusal.Refusal.the-variants.{Shape, Address, Checksum, Port, Time, Flags, NameInUse, TableFull, NoConnection, Sequence, Output, Range, NotStarted}
+use Rattle.segment.specs.declared.refusal.Refusal.the-variants.{Format, Address, Checksum, Port, Time, Flags, NameInUse, TableFull, NoConnection, Sequence, Output, Range, NotStarted}
+use Rattle.segment.specs.declared.refusal.Check.{Check}
+use Rattle.segment.specs.declared.refusal.Check.the-variants.{Clear, Refused}
 
 -- the order as document 01 writes it
 pub in-order : map numberOf order ≡ 13 ∷ 5 ∷ 2 ∷ 11 ∷ 1 ∷ 3 ∷ 4 ∷ 6 ∷ 12 ∷ 7 ∷ 9 ∷ 8 ∷ 10 ∷ []
@@ -13,11 +17,11 @@ in-order = refl
 
 -- A number stands for one refusal: this list has them by their numbers.
 byNumber : List Refusal
-byNumber = Shape ∷ Address ∷ Checksum ∷ Port ∷ Time ∷ Flags ∷ NameInUse ∷ TableFull ∷ NoConnection ∷ Sequence ∷ Output ∷ Range ∷ NotStarted ∷ []
+byNumber = Format ∷ Address ∷ Checksum ∷ Port ∷ Time ∷ Flags ∷ NameInUse ∷ TableFull ∷ NoConnection ∷ Sequence ∷ Output ∷ Range ∷ NotStarted ∷ []
 
-found : (r : Refusal) → getD byNumber (numberOf r - 1) Shape ≡ r
+found : (r : Refusal) → getD byNumber (numberOf r - 1) Format ≡ r
 unfolding byNumber
-found Shape = refl
+found Format = refl
 found Address = refl
 found Checksum = refl
 found Port = refl
@@ -32,4 +36,41 @@ found Range = refl
 found NotStarted = refl
 
 pub one-number : (a b : Refusal) → numberOf a ≡ numberOf b → a ≡ b
-one-number a b e = sym (found a) ∙ ap (λ (n : ℕ). getD byNumber (n - 1) Shape) e ∙ found b
+one-number a b e = sym (found a) ∙ ap (λ (n : ℕ). getD byNumber (n - 1) Format) e ∙ found b
+
+-- The first that applies
+
+-- none of these applies
+abbrev pub None : List Refusal → Checks → Type 0
+None [] cs = Unit {0}
+None (r ∷ rs) cs = (applies cs r ≡ false) × None rs cs
+
+-- a call is clear where none applies, and refused for the first that does
+pub clear : (rs : List Refusal) (cs : Checks) → None rs cs → firstOf rs cs ≡ Clear
+clear [] cs n = refl
+clear (r ∷ rs) cs n = rw (n .0) (clear rs cs (n .1))
+
+pub first-applies : (before : List Refusal) (r : Refusal) (after : List Refusal) (cs : Checks) → None before cs → applies cs r ≡ true
+    → firstOf (before ++ (r ∷ after)) cs ≡ Refused r
+first-applies [] r after cs n e = rw e
+first-applies (b ∷ before) r after cs n e = rw (n .0) (first-applies before r after cs (n .1) e)
+
+-- only a call that is done answers 0
+pub done-is-0 : (c : Check) → answered c ≡ 0 → c ≡ Clear
+done-is-0 Clear e = refl
+done-is-0 (Refused r) e = absurd (positive r e)
+  where
+    positive : (r : Refusal) → numberOf r ≡ 0 → ⊥
+    positive Format q = omega arith
+    positive Address q = omega arith
+    positive Checksum q = omega arith
+    positive Port q = omega arith
+    positive Time q = omega arith
+    positive Flags q = omega arith
+    positive NameInUse q = omega arith
+    positive TableFull q = omega arith
+    positive NoConnection q = omega arith
+    positive Sequence q = omega arith
+    positive Output q = omega arith
+    positive Range q = omega arith
+    positive NotStarted q = omega arith

@@ -1,14 +1,17 @@
 -- Document 01, "The table of sixteen": the rows that speak of this crate's definitions, computed. Assumes nothing.
-use Prim.Native.Nat.{ℕ, _≤_}
-use mathlib.Core.Path.{_≡_, refl}
-use mathlib.Core.Bool.{true, false}
+use Prim.Native.Nat.{ℕ, suc, _+_, _≤_}
+use mathlib.Core.Path.{_≡_, refl, ap}
+use mathlib.Core.Bool.{Bool, true, false, cond}
 use mathlib.Core.List.{List, [], _∷_}
+use native.Mathlib.Omega.{arith}
 use borrow.Author.Tests.{le-leb}
-use Rattle.segment.specs.Sequence.{nextAfter, past, inWindow}
-use Rattle.segment.specs.Options.{nothing, mssOption, fastOpenOption, withOption, readFrom, readOptions}
+use lib.ListN.{length}
+use Rattle.segment.specs.Bytes.{word}
+use Rattle.segment.specs.Sequence.{nextAfter, difference, inWindow}
+use Rattle.segment.specs.Options.{nothing, mssOption, fastOpenOption, withOption, readFrom, readOptions, cookieBytes}
 use Rattle.segment.specs.Checksum.{onesAdd, onesSum, pseudoHeader, segmentSum}
 use Rattle.segment.specs.Write.{optionBytes, headerBytes, segmentWith, segmentBytes, canWrite, written, answerBytes}
-use Rattle.segment.specs.declared.options.Mss.the-variants.{Unseen, Is}
+use Rattle.segment.specs.declared.options.Mss.the-variants.{NotGiven, Given}
 use Rattle.segment.specs.declared.options.FastOpen.{FastOpen}
 use Rattle.segment.specs.declared.options.FastOpen.the-variants.{Absent, Request, Cookie}
 use Rattle.segment.specs.declared.options.Options.{Options}
@@ -24,20 +27,20 @@ row2 = refl
 
 -- 3 to 5: the window of a completion
 pub row3 : inWindow 5 65539 ≡ true
-unfolding inWindow past
+unfolding inWindow difference
 row3 = refl
 
 pub row4 : inWindow 5 65540 ≡ false
-unfolding inWindow past
+unfolding inWindow difference
 row4 = refl
 
 pub row5 : inWindow 5 4 ≡ false
-unfolding inWindow past
+unfolding inWindow difference
 row5 = refl
 
 -- nothing but a Fast Open option
 abbrev pub only : FastOpen → Options
-only f = record { mss = Unseen; fast = f }
+only f = record { mss = NotGiven; fast = f }
 
 -- 6: a request
 pub row6 : readOptions (34 ∷ 2 ∷ []) ≡ only Request
@@ -53,25 +56,41 @@ pub row8 : (readOptions (34 ∷ 4 ∷ 1 ∷ 2 ∷ []) ≡ nothing) × (readOptio
 unfolding readOptions readFrom withOption mssOption fastOpenOption
 row8 = (refl, refl)
 
+-- an area in which just a cookie of these bytes is found, at byte 2
+abbrev pub FoundCookie : List ℕ → List ℕ → Type 0
+FoundCookie cookie area = (readOptions area ≡ only (Cookie 2 (length cookie))) × (cookieBytes (readOptions area .fast) area ≡ cookie)
+
 -- 9, 10: the shortest cookie and the longest, whatever their bytes
-pub row9 : (a b c d : ℕ) → readOptions (34 ∷ 6 ∷ a ∷ b ∷ c ∷ d ∷ []) ≡ only (Cookie 2 4)
+pub row9 : (a b c d : ℕ) → FoundCookie (a ∷ b ∷ c ∷ d ∷ []) (34 ∷ 6 ∷ a ∷ b ∷ c ∷ d ∷ [])
 unfolding readOptions readFrom withOption mssOption fastOpenOption
-row9 a b c d = refl
+row9 a b c d = (refl, refl)
 
 pub row10 : (a b c d e f g h i j k l m n o p : ℕ)
-    → readOptions (34 ∷ 18 ∷ a ∷ b ∷ c ∷ d ∷ e ∷ f ∷ g ∷ h ∷ i ∷ j ∷ k ∷ l ∷ m ∷ n ∷ o ∷ p ∷ []) ≡ only (Cookie 2 16)
+    → FoundCookie (a ∷ b ∷ c ∷ d ∷ e ∷ f ∷ g ∷ h ∷ i ∷ j ∷ k ∷ l ∷ m ∷ n ∷ o ∷ p ∷ [])
+    (34 ∷ 18 ∷ a ∷ b ∷ c ∷ d ∷ e ∷ f ∷ g ∷ h ∷ i ∷ j ∷ k ∷ l ∷ m ∷ n ∷ o ∷ p ∷ [])
 unfolding readOptions readFrom withOption mssOption fastOpenOption
-row10 a b c d e f g h i j k l m n o p = refl
+row10 a b c d e f g h i j k l m n o p = (refl, refl)
 
--- 11: reading ends, whatever follows
-pub row11 : (rest : List ℕ) → readOptions (34 ∷ 0 ∷ rest) ≡ nothing
-unfolding readOptions readFrom
-row11 rest = refl
+-- nothing but an MSS
+abbrev pub given : ℕ → Options
+given mss = record { mss = Given mss; fast = Absent }
 
--- 12: reading ends at the last byte
-pub row12 : readOptions (34 ∷ []) ≡ nothing
-unfolding readOptions readFrom
-row12 = refl
+-- an MSS option before these bytes, and nothing of them found
+abbrev pub EarlierStands : List ℕ → Type 0
+EarlierStands bytes = (a b : ℕ) → readOptions (2 ∷ 4 ∷ a ∷ b ∷ bytes) ≡ given (word a b)
+
+-- 11: reading ends, whatever follows, and what was found before stands
+pub row11 : (rest : List ℕ) → (readOptions (34 ∷ 0 ∷ rest) ≡ nothing) × EarlierStands (34 ∷ 0 ∷ rest)
+unfolding readOptions readFrom withOption mssOption fastOpenOption
+row11 rest = (refl, earlier)
+  where
+    earlier : EarlierStands (34 ∷ 0 ∷ rest)
+    earlier a b = ap (λ (fits : Bool). cond fits (given (word a b)) nothing) (le-leb 4 (suc (suc (suc (suc (suc (length rest))))) + 1) (omega arith))
+
+-- 12: reading ends at the last byte, and what was found before stands
+pub row12 : (readOptions (34 ∷ []) ≡ nothing) × EarlierStands (34 ∷ [])
+unfolding readOptions readFrom withOption mssOption fastOpenOption
+row12 = (refl, λ a b. refl)
 
 -- 16: the answer's bytes, in any output that has room for them
 pub row16 : (cookie : List ℕ) (room : ℕ) → 24 ≤ room

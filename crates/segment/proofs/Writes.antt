@@ -1,16 +1,15 @@
 -- Writes that follow one another, and parts of an output that were lent. Assumes nothing.
-use Prim.Native.Nat.{ℕ, zero, suc, _+_, _-_, _*_, _/_, _%_, _≤_, _<_}
+use Prim.Native.Nat.{ℕ, zero, suc, _+_, _-_, _%_, _≤_, _<_}
 use mathlib.Core.Path.{_≡_, refl, ap, sym, _∙_, subst}
 use mathlib.Core.Bool.{Bool, true, false, true≢false, not}
 use mathlib.Core.List.{List, [], _∷_, _++_, append-nil, append-assoc}
 use native.Mathlib.Omega.{arith}
 use lib.ListN.{length, take, drop, replicate, drop-of-length-le, length-append, length-drop, length-replicate}
 use lib.Seq.{take-all, take-at, drop-at, drop-drop, length-take-le}
-use borrow.Author.Tests.{le-leb, lt-leb}
 use borrow.Rule.Slice.PartMut.{putMid, postOf}
 use Rattle.segment.specs.declared.write.Outgoing.{Outgoing}
 use Rattle.segment.specs.Checksum.{onesSum, complement}
-use Rattle.segment.specs.Write.{padding, padded, mssBytes, fastOpenBytes, optionBytes, capped, headerBytes, overwrite}
+use Rattle.segment.specs.Write.{padding, padded, mssBytes, fastOpenBytes, optionBytes, headerBytes, overwrite}
 use Rattle.segment.proofs.Sums.{sum-append}
 
 -- the output from `at` on was lent, and came back as `last`
@@ -82,20 +81,6 @@ pub room-for-padding : (mss : ℕ) (fast : Bool) (ck : List ℕ) (n at : ℕ) �
 room-for-padding mss true ck n at e h k = subst (λ (x : ℕ). x + padding x ≤ n) (sym k) (omega (arith, options-fast mss ck))
 room-for-padding mss false ck n at e h k = absurd (true≢false e)
 
--- their length, or 44: without a Fast Open option, with a cookie too long for the area, and with another
-pub capped-plain : (mss : ℕ) (fast : Bool) (ck : List ℕ) → not fast ≡ true → 4 ≡ capped (length (optionBytes mss fast ck))
-capped-plain mss true ck e = absurd (true≢false (sym e))
-capped-plain mss false ck e = rw (options-plain mss ck)
-
-pub capped-long : (mss : ℕ) (fast : Bool) (ck : List ℕ) → not fast ≡ false → 34 < length ck → 44 ≡ capped (length (optionBytes mss fast ck))
-capped-long mss true ck e h = rw (lt-leb (length (optionBytes mss true ck)) 40 (omega (arith, options-fast mss ck)))
-capped-long mss false ck e h = absurd (true≢false e)
-
-pub capped-short : (mss : ℕ) (fast : Bool) (ck : List ℕ) → not fast ≡ false → length ck ≤ 34
-    → 4 + (length ck + 5) / 4 * 4 ≡ capped (length (optionBytes mss fast ck))
-capped-short mss true ck e h = rw (le-leb (length (optionBytes mss true ck)) 40 (omega (arith, options-fast mss ck))) (omega (arith, options-fast mss ck))
-capped-short mss false ck e h = absurd (true≢false e)
-
 -- up to three bytes of kind 1
 pub ones : (n : ℕ) → n < 4 → take {A = ℕ} n (1 ∷ 1 ∷ 1 ∷ []) ≡ replicate n 1
 ones zero h = refl
@@ -138,14 +123,14 @@ body out options last₁ payload last₂ m h em e₁ k e₂ =
     let w = more out a payload out₁ _ (20 + m) _ (n, p) refl (copied out₁ payload last₂ (20 + m) k e₂) in
     w .1 ∙ simp append-assoc
 
--- the header, signed by the sum over the pseudo-header, itself with no checksum, and what follows it
-pub headed : (f : Outgoing) (words s₁ s₂ s₃ : ℕ) (pseudo rest h₀ h out end : List ℕ) → length pseudo % 2 ≡ 0
+-- the header with its checksum, from the sums over the pseudo-header, over itself without one, and over what follows it
+pub header-written : (f : Outgoing) (words s₁ s₂ s₃ : ℕ) (pseudo rest h₀ h out end : List ℕ) → length pseudo % 2 ≡ 0
     → h₀ ≡ headerBytes f words 0 → s₁ ≡ onesSum 0 pseudo → s₂ ≡ onesSum s₁ h₀ → s₃ ≡ onesSum s₂ rest
     → h ≡ headerBytes f words (complement s₃)
     → end ≡ take (length h) h ++ drop (length h) out
     → end ≡ headerBytes f words (complement (onesSum 0 (pseudo ++ (headerBytes f words 0 ++ rest)))) ++ drop 20 out
 unfolding headerBytes
-headed f words s₁ s₂ s₃ pseudo rest h₀ h out end ev e₀ e₁ e₂ e₃ eh ee =
+header-written f words s₁ s₂ s₃ pseudo rest h₀ h out end ev e₀ e₁ e₂ e₃ eh ee =
     let s : s₃ ≡ onesSum 0 (pseudo ++ (headerBytes f words 0 ++ rest)) =
     e₃ ∙ rw (e₂, e₁, e₀) (sym (sum-append 0 pseudo (headerBytes f words 0 ++ rest) ev ∙ sum-append (onesSum 0 pseudo) (headerBytes f words 0) rest refl)) in
     ee ∙ ap (λ (x : List ℕ). take (length x) x ++ drop (length x) out) eh ∙ ap (λ (x : ℕ). headerBytes f words (complement x) ++ drop 20 out) s

@@ -1,87 +1,127 @@
 -- A segment that is written, and one that is not. Assumes nothing.
-use Prim.Native.Nat.{ℕ, _+_, _-_, _*_, _/_, _%_, _≤_, _<_}
-use mathlib.Core.Path.{_≡_, refl, ap, sym, _∙_, subst}
-use mathlib.Core.Bool.{Bool, true, false, true≢false, false≢true, cond, not, _&&_}
-use mathlib.Core.List.{List, [], _∷_, _++_, append-assoc, append-nil}
+use Prim.Native.Nat.{ℕ, zero, suc, _+_, _-_, _/_, _%_, _≤_}
+use mathlib.Core.Path.{_≡_, refl, ap, sym, _∙_}
+use mathlib.Core.Bool.{Bool, true, false, true≢false, cond, not, _&&_, _||_}
+use mathlib.Core.List.{List, _++_, append-assoc}
 use native.Mathlib.Omega.{arith}
-use lib.ListN.{length, take, drop, length-append, length-drop}
+use lib.ListN.{length, take, drop, length-append}
 use lib.Seq.{take-at, drop-at, length-take-le}
-use lib.Dec.{leb}
-use borrow.Author.Tests.{leb-true, leb-false}
+use lib.Dec.{leb, eqb}
+use borrow.Author.Tests.{leb-true, eqb-true, ne-eqb}
 use Rattle.segment.specs.declared.write.Outgoing.{Outgoing}
 use Rattle.segment.specs.Checksum.{onesSum, complement, oneFamily, pseudoHeader, segmentSum}
-use Rattle.segment.specs.Write.{headerBytes, segmentWith, segmentBytes, canWrite, capped, optionsFor, written, overwrite}
+use Rattle.segment.specs.Write.{headerBytes, segmentWith, segmentBytes, cookieSize, optionBytes, optionsFor, lengthFor, optionLength, writableLength, canWrite, written, overwrite}
 use Rattle.segment.proofs.Family.{and-true}
+use Rattle.segment.proofs.Writes.{options-plain, options-fast, options-least}
 
 -- what `canWrite` tests
-pub record Writable (family : Bool) (options payload room : ℕ) : Type 0 where
-  pub one : family ≡ true
-  pub area : options ≤ 40
-  pub short : 20 + options + payload ≤ 1520
-  pub fits : 20 + options + payload ≤ room
+pub record Writable (src dst : List ℕ) (f : Outgoing) (cookie payload : List ℕ) (room : ℕ) : Type 0 where
+  pub one : oneFamily src dst ≡ true
+  pub sized : not (f .fast) || cookieSize (length cookie) ≡ true
+  pub short : lengthFor f cookie payload ≤ 1520
+  pub fits : lengthFor f cookie payload ≤ room
 
-pub writable : (family : Bool) (options payload room : ℕ) → canWrite family options payload room ≡ true → Writable family options payload room
+pub writable : (src dst : List ℕ) (f : Outgoing) (cookie payload : List ℕ) (room : ℕ) → canWrite src dst f cookie payload room ≡ true
+    → Writable src dst f cookie payload room
 unfolding canWrite
-writable family options payload room e =
-    let n = 20 + options + payload in
-    let a = and-true family _ e in
-    let b = and-true (leb options 40) _ (a .1) in
+writable src dst f cookie payload room e =
+    let n = lengthFor f cookie payload in
+    let a = and-true (oneFamily src dst) _ e in
+    let b = and-true (not (f .fast) || cookieSize (length cookie)) _ (a .1) in
     let d = and-true (leb n 1520) (leb n room) (b .1) in
-    record { one = a .0; area = leb-true options 40 (b .0); short = leb-true n 1520 (d .0); fits = leb-true n room (d .1) }
+    record { one = a .0; sized = b .0; short = leb-true n 1520 (d .0); fits = leb-true n room (d .1) }
 
--- options that are too long are so by their capped length too
-capped-can : (family : Bool) (m payload room : ℕ) → canWrite family (capped m) payload room ≡ canWrite family m payload room
-unfolding canWrite
-capped-can family m payload room = go (leb m 40) refl
-  where
-    go : (k : Bool) → leb m 40 ≡ k
-        → family && (leb (cond k m 44) 40 && (leb (20 + cond k m 44 + payload) 1520 && leb (20 + cond k m 44 + payload) room))
-        ≡ family && (leb m 40 && (leb (20 + m + payload) 1520 && leb (20 + m + payload) room))
-    go true e = refl
-    go false e = ap (λ (x : Bool). family && (x && (leb (20 + m + payload) 1520 && leb (20 + m + payload) room))) (sym e)
+-- an option may have a cookie of so many bytes: none, or 4 to 16, an even number
+pub record Sized (n : ℕ) : Type 0 where
+  pub least : 4 ≤ n
+  pub most : n ≤ 16
+  pub even : n % 2 ≡ 0
 
-capped-is : (m : ℕ) → m ≤ 40 → capped m ≡ m
-capped-is m h = go (leb m 40) refl
+pub cookie-sized : (n : ℕ) → cookieSize (suc n) ≡ true → Sized (suc n)
+unfolding cookieSize
+cookie-sized n e =
+    let z : eqb (suc n) 0 ≡ false = ne-eqb (suc n) 0 (λ q. omega arith) in
+    let a = and-true (leb 4 (suc n)) (leb (suc n) 16 && eqb (suc n % 2) 0) (rw z at e) in
+    let b = and-true (leb (suc n) 16) (eqb (suc n % 2) 0) (a .1) in
+    record { least = leb-true 4 (suc n) (a .0); most = leb-true (suc n) 16 (b .0); even = eqb-true (suc n % 2) 0 (b .1) }
+
+pub cookie-most : (n : ℕ) → cookieSize n ≡ true → n ≤ 16
+cookie-most zero e = omega arith
+cookie-most (suc n) e = cookie-sized n e .most
+
+-- where a cookie may have its length, the code's length of the options is theirs
+option-length : (mss : ℕ) (fast : Bool) (cookie : List ℕ) → not fast || cookieSize (length cookie) ≡ true
+    → optionLength fast (length cookie) ≡ length (optionBytes mss fast cookie)
+option-length mss false cookie e = sym (options-plain mss cookie)
+option-length mss true cookie e = rw e (omega (arith, options-fast mss cookie))
+
+no-option-length : (fast : Bool) (n : ℕ) → not fast || cookieSize n ≡ false → optionLength fast n ≡ 0
+no-option-length false n e = absurd (true≢false e)
+no-option-length true n e = rw e
+
+pub options-most : (mss : ℕ) (fast : Bool) (cookie : List ℕ) → not fast || cookieSize (length cookie) ≡ true → length (optionBytes mss fast cookie) ≤ 24
+options-most mss false cookie e = omega (arith, options-plain mss cookie)
+options-most mss true cookie e = omega (arith, options-fast mss cookie, cookie-most (length cookie) e)
+
+neither : (x y : ℕ) (b : Bool) → cond (b && false) x 0 ≡ cond (b && false) y 0
+neither x y true = refl
+neither x y false = refl
+
+-- the code's tests are `canWrite`
+tested : (src dst : List ℕ) (f : Outgoing) (cookie payload : List ℕ) (room : ℕ)
+    → writableLength (oneFamily src dst) (optionLength (f .fast) (length cookie)) (length payload) room
+    ≡ cond (canWrite src dst f cookie payload room) (lengthFor f cookie payload) 0
+unfolding writableLength canWrite
+tested src dst f cookie payload room = go (not (f .fast) || cookieSize (length cookie)) refl
   where
-    go : (k : Bool) → leb m 40 ≡ k → cond k m 44 ≡ m
-    go true e = refl
-    go false e = absurd (omega (arith, leb-false m 40 e))
+    go : (b : Bool) → not (f .fast) || cookieSize (length cookie) ≡ b
+        → writableLength (oneFamily src dst) (optionLength (f .fast) (length cookie)) (length payload) room
+        ≡ cond (oneFamily src dst && (b && (leb (lengthFor f cookie payload) 1520 && leb (lengthFor f cookie payload) room))) (lengthFor f cookie payload) 0
+    go true e =
+        let l = options-least (f .mss) (f .fast) cookie in
+        rw (option-length (f .mss) (f .fast) cookie e, ne-eqb (length (optionsFor f cookie)) 0 (λ z. omega arith))
+    go false e = rw (no-option-length (f .fast) (length cookie) e) (neither _ _ (oneFamily src dst))
 
 -- a segment that can be written, and the lengths that the code has for it
 pub record Allowed (src dst : List ℕ) (f : Outgoing) (cookie payload : List ℕ) (room m n : ℕ) : Type 0 where
-  pub can : canWrite (oneFamily src dst) (length (optionsFor f cookie)) (length payload) room ≡ true
-  pub facts : Writable (oneFamily src dst) (length (optionsFor f cookie)) (length payload) room
+  pub can : canWrite src dst f cookie payload room ≡ true
+  pub facts : Writable src dst f cookie payload room
+  pub area : length (optionsFor f cookie) ≤ 24
   pub size : m ≡ length (optionsFor f cookie)
-  pub whole : n ≡ 20 + length (optionsFor f cookie) + length payload
+  pub whole : n ≡ lengthFor f cookie payload
 
--- What the code knows after its tests: m is the options' capped length, n the answer of `writable`.
+-- What the code knows after its tests: m is its length of the options, n of the segment.
 module _ (src dst : List ℕ) (f : Outgoing) (cookie payload : List ℕ) (room : ℕ) (family : Bool) (m n : ℕ)
-    (em : m ≡ capped (length (optionsFor f cookie))) (ef : family ≡ oneFamily src dst)
-    (en : n ≡ cond (canWrite family m (length payload) room) (20 + m + length payload) 0) where
-  tested : canWrite family m (length payload) room ≡ canWrite (oneFamily src dst) (length (optionsFor f cookie)) (length payload) room
-  tested = rw (em, ef) (capped-can (oneFamily src dst) (length (optionsFor f cookie)) (length payload) room)
+    (em : m ≡ optionLength (f .fast) (length cookie)) (ef : family ≡ oneFamily src dst)
+    (en : n ≡ writableLength family m (length payload) room) where
+  is-tested : n ≡ cond (canWrite src dst f cookie payload room) (lengthFor f cookie payload) 0
+  is-tested = en ∙ rw (em, ef) (tested src dst f cookie payload room)
 
-  pub refused : n ≡ 0 → canWrite (oneFamily src dst) (length (optionsFor f cookie)) (length payload) room ≡ false
-  refused z = sym tested ∙ go (canWrite family m (length payload) room) (sym en ∙ z)
+  pub refused : n ≡ 0 → canWrite src dst f cookie payload room ≡ false
+  refused z = go (canWrite src dst f cookie payload room) (sym is-tested ∙ z)
     where
-      go : (b : Bool) → cond b (20 + m + length payload) 0 ≡ 0 → b ≡ false
+      go : (b : Bool) → cond b (lengthFor f cookie payload) 0 ≡ 0 → b ≡ false
       go true q = absurd (omega arith)
       go false q = refl
 
   pub allowed : (n ≡ 0 → ⊥) → Allowed src dst f cookie payload room m n
-  allowed z = go (canWrite family m (length payload) room) refl
+  allowed z = go (canWrite src dst f cookie payload room) refl
     where
-      go : (b : Bool) → canWrite family m (length payload) room ≡ b → Allowed src dst f cookie payload room m n
+      go : (b : Bool) → canWrite src dst f cookie payload room ≡ b → Allowed src dst f cookie payload room m n
       go true q =
-          let c = sym tested ∙ q in
-          let w = writable (oneFamily src dst) (length (optionsFor f cookie)) (length payload) room c in
-          let k = em ∙ capped-is (length (optionsFor f cookie)) (w .area) in
-          record { can = c; facts = w; size = k; whole = en ∙ ap (λ (b : Bool). cond b (20 + m + length payload) 0) q ∙ ap (λ (x : ℕ). 20 + x + length payload) k }
-      go false q = absurd (z (en ∙ ap (λ (b : Bool). cond b (20 + m + length payload) 0) q))
+          let w = writable src dst f cookie payload room q in
+          record {
+            can = q;
+            facts = w;
+            area = options-most (f .mss) (f .fast) cookie (w .sized);
+            size = em ∙ option-length (f .mss) (f .fast) cookie (w .sized);
+            whole = is-tested ∙ ap (λ (b : Bool). cond b (lengthFor f cookie payload) 0) q;
+          }
+      go false q = absurd (z (is-tested ∙ ap (λ (b : Bool). cond b (lengthFor f cookie payload) 0) q))
 
 -- nothing is written
 pub none-written : (src dst : List ℕ) (f : Outgoing) (cookie payload out : List ℕ)
-    → canWrite (oneFamily src dst) (length (optionsFor f cookie)) (length payload) (length out) ≡ false
+    → canWrite src dst f cookie payload (length out) ≡ false
     → (0 ≡ length (written src dst f cookie payload (length out))) × (out ≡ overwrite (written src dst f cookie payload (length out)) out)
 unfolding written
 none-written src dst f cookie payload out e = rw e (refl, refl)
@@ -97,8 +137,8 @@ segment-length src dst f options payload = with-length f _ options payload
 
 -- the segment is written: options and payload from byte 20 on, then the header before them
 all-written : (src dst : List ℕ) (f : Outgoing) (cookie payload out middle end : List ℕ) (n : ℕ)
-    → canWrite (oneFamily src dst) (length (optionsFor f cookie)) (length payload) (length out) ≡ true
-    → n ≡ 20 + length (optionsFor f cookie) + length payload
+    → canWrite src dst f cookie payload (length out) ≡ true
+    → n ≡ lengthFor f cookie payload
     → middle ≡ take 20 out ++ (optionsFor f cookie ++ (payload ++ drop n out))
     → end ≡ headerBytes f ((20 + length (optionsFor f cookie)) / 4) (complement (onesSum 0 (pseudoHeader src dst n ++ (headerBytes f ((20 + length (optionsFor f cookie)) / 4) 0 ++ take (n - 20) (drop 20 middle))))) ++ drop 20 middle
     → (n ≡ length (written src dst f cookie payload (length out))) × (end ≡ overwrite (written src dst f cookie payload (length out)) out)
@@ -106,7 +146,7 @@ unfolding written segmentBytes segmentSum segmentWith
 all-written src dst f cookie payload out middle end n c k em ee =
     let o = optionsFor f cookie in
     let w = (20 + length o) / 4 in
-    let fits = writable (oneFamily src dst) (length o) (length payload) (length out) c .fits in
+    let fits = writable src dst f cookie payload (length out) c .fits in
     let d : drop 20 middle ≡ o ++ (payload ++ drop n out) = ap (drop 20) em ∙ drop-at (take 20 out) _ 20 (length-take-le 20 out (omega arith)) in
     let l : length (o ++ payload) ≡ n - 20 = omega (arith, length-append o payload) in
     let t : take (n - 20) (drop 20 middle) ≡ o ++ payload = ap (take (n - 20)) (d ∙ sym (append-assoc o payload (drop n out))) ∙ take-at (o ++ payload) (drop n out) (n - 20) l in

@@ -1,4 +1,4 @@
--- RFC 9293, 3.1: numbers in a segment stand with the high byte first.
+-- RFC 9293, 3.1: numbers in a segment, in network byte order (the high byte first).
 -- Assumes nothing.
 use Prim.Native.Nat.{ℕ, _+_, _*_, _/_, _%_}
 use mathlib.Core.List.{List, [], _∷_}

@@ -1,6 +1,6 @@
 -- RFC 1071, 1, and RFC 9293, 3.1: the sum of 16-bit words, the pseudo-header, and when a checksum is right.
 -- Assumes nothing.
-use Prim.Native.Nat.{ℕ, _+_, _-_, _*_, _/_, _%_}
+use Prim.Native.Nat.{ℕ, _+_, _-_, _/_, _%_}
 use mathlib.Core.List.{List, [], _∷_, _++_}
 use mathlib.Core.Bool.{Bool, cond, _&&_, _||_}
 use lib.ListN.{length}
@@ -37,7 +37,7 @@ pseudoTail ipv4 len = cond ipv4 (0 ∷ protocol ∷ be16 len) (be32 len ++ (0 �
 unfoldable pub pseudoHeader : List ℕ → List ℕ → ℕ → List ℕ
 pseudoHeader src dst len = src ++ (dst ++ pseudoTail (eqb (length src) 4) len)
 
--- the sum that a segment is sent with and checked by
+-- the sum over a segment and its pseudo-header
 unfoldable pub segmentSum : List ℕ → List ℕ → List ℕ → ℕ
 segmentSum src dst seg = onesSum 0 (pseudoHeader src dst (length seg) ++ seg)
 

@@ -2,10 +2,13 @@
 -- Assumes nothing.
 use Prim.Native.Nat.{ℕ, _-_, _*_, _/_, _%_}
 use mathlib.Core.List.{List, []}
-use mathlib.Core.Bool.{Bool, true, false, cond, not, _&&_, _||_}
+use mathlib.Core.Bool.{Bool, cond, not, _&&_, _||_}
 use lib.ListN.{length, take, drop}
 use lib.Dec.{ltb, eqb}
 use Rattle.segment.specs.Bytes.{byteAt, wordAt, longAt}
+use Rattle.segment.specs.declared.refusal.Refusal.the-variants.{Format}
+use Rattle.segment.specs.declared.refusal.Check.{Check}
+use Rattle.segment.specs.declared.refusal.Check.the-variants.{Clear, Refused}
 use Rattle.segment.specs.declared.header.Header.{Header}
 use Rattle.segment.specs.declared.header.Shape.{Shape}
 use Rattle.segment.specs.declared.header.Shape.the-variants.{Malformed, WellFormed}
@@ -40,7 +43,12 @@ fieldsOf s =
 unfoldable pub shapeOf : List ℕ → Shape
 shapeOf s = cond (malformed s) Malformed (WellFormed (fieldsOf s))
 
--- the option area, from byte 20 to the header's end, and the payload; nothing of a segment that is refused 1
+-- the check that a shape comes to
+abbrev pub shapeCheck : Shape → Check
+shapeCheck Malformed = Refused Format
+shapeCheck (WellFormed h) = Clear
+
+-- the option area, from byte 20 to the header's end (at most 40 bytes, by the law `area-most`), and the payload; nothing of a segment that is refused 1
 unfoldable pub optionArea : List ℕ → List ℕ
 optionArea s = cond (malformed s) [] (take (headerLength s - 20) (drop 20 s))
 
@@ -60,10 +68,11 @@ RST = 4
 abbrev pub ACK : ℕ
 ACK = 16
 
+-- whether the flags have a control bit
 unfoldable pub has : ℕ → ℕ → Bool
 has flags bit = eqb (flags / bit % 2) 1
 
--- opening: SYN, no ACK, RST or FIN. Reset: RST, no SYN. Completion: ACK, no SYN or RST.
+-- `Syn` is 01's opening: SYN, no ACK, RST or FIN. `Rst` is its reset: RST, no SYN. `Ack` is its completion: ACK, no SYN or RST; FIN allowed.
 unfoldable pub kindOf : ℕ → Kind
 kindOf flags =
     cond (has flags SYN)

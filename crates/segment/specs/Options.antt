@@ -2,34 +2,34 @@
 -- Assumes nothing.
 use Prim.Native.Nat.{ℕ, zero, suc, _+_, _-_, _%_}
 use mathlib.Core.List.{List, [], _∷_}
-use mathlib.Core.Bool.{Bool, true, false, cond, _&&_, _||_}
+use mathlib.Core.Bool.{Bool, true, false, cond, _&&_}
 use lib.ListN.{length, take, drop}
 use lib.Dec.{leb, eqb}
 use Rattle.segment.specs.Bytes.{byteAt, wordAt}
 use Rattle.segment.specs.Header.{optionArea, has, SYN}
 use Rattle.segment.specs.declared.options.Mss.{Mss}
-use Rattle.segment.specs.declared.options.Mss.the-variants.{Unseen, Is}
+use Rattle.segment.specs.declared.options.Mss.the-variants.{NotGiven, Given}
 use Rattle.segment.specs.declared.options.FastOpen.{FastOpen}
 use Rattle.segment.specs.declared.options.FastOpen.the-variants.{Absent, Request, Cookie}
 use Rattle.segment.specs.declared.options.Options.{Options}
 
 -- kind 2 counts with length 4
 unfoldable pub mssOption : List ℕ → ℕ → ℕ → Mss
-mssOption area i len = cond (eqb (byteAt area i) 2 && eqb len 4) (Is (wordAt area (i + 2))) Unseen
+mssOption area i len = cond (eqb (byteAt area i) 2 && eqb len 4) (Given (wordAt area (i + 2))) NotGiven
 
 -- a cookie's option has an even length of 6 to 18
 abbrev pub cookieLength : ℕ → Bool
 cookieLength len = leb 6 len && (leb len 18 && eqb (len % 2) 0)
 
 -- kind 34 counts with length 2, an empty cookie that asks for one, or with a cookie, which begins two bytes further on
-unfoldable pub fastOpenOption : ℕ → ℕ → ℕ → FastOpen
-fastOpenOption kind i len =
-    cond (eqb kind 34) (cond (eqb len 2) Request (cond (cookieLength len) (Cookie (i + 2) (len - 2)) Absent)) Absent
+unfoldable pub fastOpenOption : List ℕ → ℕ → ℕ → FastOpen
+fastOpenOption area i len =
+    cond (eqb (byteAt area i) 34) (cond (eqb len 2) Request (cond (cookieLength len) (Cookie (i + 2) (len - 2)) Absent)) Absent
 
 -- of several that count the first is used
 abbrev pub firstMss : Mss → Mss → Mss
-firstMss Unseen next = next
-firstMss (Is v) next = Is v
+firstMss NotGiven next = next
+firstMss (Given v) next = Given v
 
 abbrev pub firstFastOpen : FastOpen → FastOpen → FastOpen
 firstFastOpen Absent next = next
@@ -37,19 +37,19 @@ firstFastOpen Request next = Request
 firstFastOpen (Cookie at len) next = Cookie at len
 
 abbrev pub nothing : Options
-nothing = record { mss = Unseen; fast = Absent }
+nothing = record { mss = NotGiven; fast = Absent }
 
 -- what is found so far, and the option of len bytes at i
 unfoldable pub withOption : Options → List ℕ → ℕ → ℕ → Options
 withOption found area i len =
     record {
       mss = firstMss (found .mss) (mssOption area i len);
-      fast = firstFastOpen (found .fast) (fastOpenOption (byteAt area i) i len);
+      fast = firstFastOpen (found .fast) (fastOpenOption area i len);
     }
 
--- At a kind byte: kind 0 ends the list, kind 1 is one byte, and any other kind has a length of at least 2 that fits the bytes left, or the reading ends.
-abbrev pub turn : ℕ → ℕ → ℕ → Options → Options → Options → Options
-turn kind len left end one on =
+-- One step, at a kind byte: kind 0 ends the list, kind 1 is one byte, and any other kind has a length of at least 2 that fits the bytes left, or the reading ends.
+abbrev pub step : ℕ → ℕ → ℕ → Options → Options → Options → Options
+step kind len left end one on =
     cond (eqb kind 0) end (cond (eqb kind 1) one (cond (leb 2 len && leb len left) on end))
 
 -- Reading the area from place i on, where `rest` stands. `skip` bytes of it belong to the option before.
@@ -57,7 +57,7 @@ unfoldable pub readFrom : List ℕ → ℕ → ℕ → List ℕ → Options → 
 readFrom area i skip [] found = found
 readFrom area i (suc skip) (b ∷ rest) found = readFrom area (i + 1) skip rest found
 readFrom area i zero (kind ∷ rest) found =
-    turn kind (byteAt rest 0) (length rest + 1) found
+    step kind (byteAt rest 0) (length rest + 1) found
     (readFrom area (i + 1) 0 rest found)
     (readFrom area (i + 1) (byteAt rest 0 - 1) rest (withOption found area i (byteAt rest 0)))
 
@@ -65,13 +65,13 @@ unfoldable pub readOptions : List ℕ → Options
 readOptions area = readFrom area 0 0 area nothing
 
 -- Fast Open without the SYN flag is ignored
-abbrev pub heeding : Bool → Options → Options
-heeding true o = o
-heeding false o = record { mss = o .mss; fast = Absent }
+abbrev pub ifSyn : Bool → Options → Options
+ifSyn true o = o
+ifSyn false o = record { mss = o .mss; fast = Absent }
 
 -- the options of a segment that count
 unfoldable pub optionsOf : List ℕ → Options
-optionsOf seg = heeding (has (byteAt seg 13) SYN) (readOptions (optionArea seg))
+optionsOf seg = ifSyn (has (byteAt seg 13) SYN) (readOptions (optionArea seg))
 
 -- the bytes of a cookie that was found in an area; none of a request
 abbrev pub cookieBytes : FastOpen → List ℕ → List ℕ

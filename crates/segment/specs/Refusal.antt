@@ -2,16 +2,16 @@
 -- Assumes nothing.
 use Prim.Native.Nat.{ℕ}
 use mathlib.Core.List.{List, [], _∷_}
-use mathlib.Core.Bool.{Bool, true, false, cond}
+use mathlib.Core.Bool.{Bool, false, cond, _||_}
 use lib.Dec.{eqb}
 use Rattle.segment.specs.declared.refusal.Refusal.{Refusal}
-use Rattle.segment.specs.declared.refusal.Refusal.the-variants.{Shape, Address, Checksum, Port, Time, Flags, NameInUse, TableFull, NoConnection, Sequence, Output, Range, NotStarted}
+use Rattle.segment.specs.declared.refusal.Refusal.the-variants.{Format, Address, Checksum, Port, Time, Flags, NameInUse, TableFull, NoConnection, Sequence, Output, Range, NotStarted}
 use Rattle.segment.specs.declared.refusal.Check.{Check}
 use Rattle.segment.specs.declared.refusal.Check.the-variants.{Clear, Refused}
 
 -- the table's first column; its second says when each is given
 abbrev pub numberOf : Refusal → ℕ
-numberOf Shape = 1
+numberOf Format = 1
 numberOf Address = 2
 numberOf Checksum = 3
 numberOf Port = 4
@@ -28,10 +28,10 @@ numberOf NotStarted = 13
 -- the order in which they are looked for
 abbrev pub order : List Refusal
 order =
-    NotStarted ∷ Time ∷ Address ∷ Output ∷ Shape ∷ Checksum ∷ Port ∷ Flags
+    NotStarted ∷ Time ∷ Address ∷ Output ∷ Format ∷ Checksum ∷ Port ∷ Flags
     ∷ Range ∷ NameInUse ∷ NoConnection ∷ TableFull ∷ Sequence ∷ []
 
--- The checks of a call: the refusals that it has, each with whether it applies. They may be listed in any order.
+-- The checks of a call: the refusals that it has, each with whether it applies, in any order and as often as there are reasons for it.
 abbrev pub Checks : Type 0
 Checks = List (Refusal × Bool)
 
@@ -41,7 +41,7 @@ same a b = eqb (numberOf a) (numberOf b)
 -- a refusal that a call does not have does not apply
 abbrev pub applies : Checks → Refusal → Bool
 applies [] r = false
-applies (c ∷ cs) r = cond (same (c .0) r) (c .1) (applies cs r)
+applies (c ∷ cs) r = cond (same (c .0) r) (applies cs r || c .1) (applies cs r)
 
 -- the first of some refusals that applies
 abbrev pub firstOf : List Refusal → Checks → Check

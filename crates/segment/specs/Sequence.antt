@@ -8,14 +8,14 @@ use lib.Dec.{ltb}
 unfoldable pub nextAfter : ℕ → ℕ → ℕ
 nextAfter initial bytes = (initial + 1 + bytes) % 2 ^ 32
 
--- how far a lies past b, both below 2^32
-unfoldable pub past : ℕ → ℕ → ℕ
-past a b = (a + 2 ^ 32 - b) % 2 ^ 32
+-- a − b, both below 2^32
+unfoldable pub difference : ℕ → ℕ → ℕ
+difference a b = (a + 2 ^ 32 - b) % 2 ^ 32
 
 -- a completion's sequence number is admitted: it lies less than 65,535 past the expected one
 unfoldable pub inWindow : ℕ → ℕ → Bool
-inWindow expected seq = ltb (past seq expected) 65535
+inWindow expected seq = ltb (difference seq expected) 65535
 
--- how many bytes after the opening an answer acknowledges: its acknowledgement − our number − 1
+-- how many of the bytes sent with an opening its answer acknowledges: acknowledgement − our number − 1
 unfoldable pub acknowledged : ℕ → ℕ → ℕ
-acknowledged iss ack = past (past ack iss) 1
+acknowledged iss ack = difference (difference ack iss) 1

@@ -2,9 +2,9 @@
 -- Assumes nothing.
 use Prim.Native.Nat.{ℕ, _+_, _-_, _*_, _/_, _%_}
 use mathlib.Core.List.{List, [], _∷_, _++_}
-use mathlib.Core.Bool.{Bool, true, false, cond, _&&_}
+use mathlib.Core.Bool.{Bool, true, false, cond, not, _&&_, _||_}
 use lib.ListN.{length, drop, replicate}
-use lib.Dec.{leb}
+use lib.Dec.{leb, eqb}
 use Rattle.segment.specs.Bytes.{be16, be32}
 use Rattle.segment.specs.Header.{SYN, ACK}
 use Rattle.segment.specs.Checksum.{complement, oneFamily, segmentSum}
@@ -21,6 +21,10 @@ mssBytes mss = 2 ∷ 4 ∷ be16 mss
 abbrev pub fastOpenBytes : List ℕ → List ℕ
 fastOpenBytes cookie = 34 ∷ (length cookie + 2) ∷ cookie
 
+-- RFC 7413, 4.1.1: the lengths that a cookie may have, 0 (a request) or an even 4 to 16
+unfoldable pub cookieSize : ℕ → Bool
+cookieSize n = eqb n 0 || (leb 4 n && (leb n 16 && eqb (n % 2) 0))
+
 -- how many bytes of kind 1 follow n bytes of options, up to a multiple of four
 abbrev pub padding : ℕ → ℕ
 padding n = (4 - n % 4) % 4
@@ -33,40 +37,50 @@ unfoldable pub optionBytes : ℕ → Bool → List ℕ → List ℕ
 optionBytes mss false cookie = mssBytes mss
 optionBytes mss true cookie = padded (mssBytes mss ++ fastOpenBytes cookie)
 
--- the header of so many 32-bit words, with a checksum; window 65,535, urgent 0
+-- the header with a data offset and a checksum; window 65,535, urgent 0
 unfoldable pub headerBytes : Outgoing → ℕ → ℕ → List ℕ
-headerBytes f words check =
+headerBytes f offset check =
     be16 (f .source) ++ be16 (f .dest) ++ be32 (f .seq) ++ be32 (f .ack)
-    ++ (words * 16 ∷ f .flags ∷ []) ++ be16 65535 ++ be16 check ++ be16 0
+    ++ (offset * 16 ∷ f .flags ∷ []) ++ be16 65535 ++ be16 check ++ be16 0
 
--- the header before its options and payload. The checksum is the complement of the sum in which its own field is 0.
+-- a header with a checksum before its options and payload
 unfoldable pub segmentWith : Outgoing → ℕ → List ℕ → List ℕ → List ℕ
 segmentWith f check options payload = headerBytes f ((20 + length options) / 4) check ++ (options ++ payload)
 
+-- the segment with its checksum: the complement of the sum in which the checksum is 0
 unfoldable pub segmentBytes : List ℕ → List ℕ → Outgoing → List ℕ → List ℕ → List ℕ
 segmentBytes src dst f options payload =
     segmentWith f (complement (segmentSum src dst (segmentWith f 0 options payload))) options payload
-
--- A segment is written where its addresses are of one family, its options fit the option area, it has no more than the 1,520 bytes that
--- are read, and the output has room for it. (Of the lengths of its options and payload, and the output's.)
-unfoldable pub canWrite : Bool → ℕ → ℕ → ℕ → Bool
-canWrite family options payload room =
-    family && (leb options 40 && (leb (20 + options + payload) 1520 && leb (20 + options + payload) room))
-
--- a length of options that fits the area, or 44
-abbrev pub capped : ℕ → ℕ
-capped n = cond (leb n 40) n 44
 
 -- the option area of a segment to be written
 abbrev pub optionsFor : Outgoing → List ℕ → List ℕ
 optionsFor f cookie = optionBytes (f .mss) (f .fast) cookie
 
+-- how many bytes the segment has
+abbrev pub lengthFor : Outgoing → List ℕ → List ℕ → ℕ
+lengthFor f cookie payload = 20 + length (optionsFor f cookie) + length payload
+
+-- A segment is written where its addresses are of one family, its cookie has a length that an option may have, it has no more than the
+-- 1,520 bytes that are read, and the output has room for it.
+unfoldable pub canWrite : List ℕ → List ℕ → Outgoing → List ℕ → List ℕ → ℕ → Bool
+canWrite src dst f cookie payload room =
+    oneFamily src dst
+    && ((not (f .fast) || cookieSize (length cookie))
+    && (leb (lengthFor f cookie payload) 1520 && leb (lengthFor f cookie payload) room))
+
+-- The same by lengths, for the code's private functions: the length of the options, 0 where a cookie may not have its length, and the
+-- length of a segment that can be written, else 0.
+abbrev pub optionLength : Bool → ℕ → ℕ
+optionLength fast cookie = cond (not fast) 4 (cond (cookieSize cookie) (4 + (cookie + 5) / 4 * 4) 0)
+
+unfoldable pub writableLength : Bool → ℕ → ℕ → ℕ → ℕ
+writableLength family options payload room =
+    cond (family && (not (eqb options 0) && (leb (20 + options + payload) 1520 && leb (20 + options + payload) room))) (20 + options + payload) 0
+
 -- the bytes that are written to an output with so much room; none where the segment is not written
 unfoldable pub written : List ℕ → List ℕ → Outgoing → List ℕ → List ℕ → ℕ → List ℕ
 written src dst f cookie payload room =
-    cond (canWrite (oneFamily src dst) (length (optionsFor f cookie)) (length payload) room)
-    (segmentBytes src dst f (optionsFor f cookie) payload)
-    []
+    cond (canWrite src dst f cookie payload room) (segmentBytes src dst f (optionsFor f cookie) payload) []
 
 -- an output with these bytes at its start, and later bytes as they were
 abbrev pub overwrite : List ℕ → List ℕ → List ℕ

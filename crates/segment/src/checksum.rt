@@ -1,8 +1,8 @@
 // The checksum (RFC 1071; RFC 9293, 3.1).
 use crate::number::word16;
 ghost use mathlib.Core.Path.{_≡_};
-ghost use mathlib.Core.Bool.{true, false};
-ghost use Rattle.segment.specs.Checksum.{onesAdd, onesSum, oneFamily, pseudoTail, pseudoHeader, checksumRight};
+ghost use mathlib.Core.Bool.{true};
+ghost use Rattle.segment.specs.Checksum.{onesAdd, onesSum, oneFamily, pseudoHeader, checksumRight};
 
 fn ones_add(a: u16, b: u16) -> u16
     ensures { λ r. ⌜ r ≡ onesAdd a b ⌝ }
@@ -42,18 +42,19 @@ pub fn is_one_family(src: &[u8], dst: &[u8]) -> bool
     n == 16
 }
 
-// What follows the addresses in IPv4's pseudo-header, added to a sum.
-fn add_tail4(sum: u16, len: usize) -> u16
-    ensures { λ r. ⌜ r ≡ onesSum sum (pseudoTail true len) ⌝ }
-{
-    let tail = [0, PROTOCOL, (len / 256 % 256) as u8, (len % 256) as u8];
-    add_bytes(sum, &tail)
-}
+// TCP's number among the protocols.
+const PROTOCOL: u8 = 6;
 
-// The same of IPv6.
-fn add_tail6(sum: u16, len: usize) -> u16
-    ensures { λ r. ⌜ r ≡ onesSum sum (pseudoTail false len) ⌝ }
+// The sum of the pseudo-header of a segment of `len` bytes.
+pub(crate) fn pseudo_sum(src: &[u8], dst: &[u8], len: usize) -> u16
+    requires { ⌜ oneFamily (now src) (now dst) ≡ true ⌝ }
+    ensures { λ r. ⌜ r ≡ onesSum 0 (pseudoHeader (now (src .entry)) (now (dst .entry)) len) ⌝ }
 {
+    let sum = add_bytes(add_bytes(0, src), dst);
+    if src.len() == 4 {
+        let tail = [0, PROTOCOL, (len / 256 % 256) as u8, (len % 256) as u8];
+        return add_bytes(sum, &tail);
+    }
     let tail = [
         (len / 16777216 % 256) as u8,
         (len / 65536 % 256) as u8,
@@ -65,21 +66,6 @@ fn add_tail6(sum: u16, len: usize) -> u16
         PROTOCOL,
     ];
     add_bytes(sum, &tail)
-}
-
-// TCP's number among the protocols.
-const PROTOCOL: u8 = 6;
-
-// The sum of the pseudo-header of a segment of `len` bytes.
-pub(crate) fn pseudo_sum(src: &[u8], dst: &[u8], len: usize) -> u16
-    requires { ⌜ oneFamily (now src) (now dst) ≡ true ⌝ }
-    ensures { λ r. ⌜ r ≡ onesSum 0 (pseudoHeader (now (src .entry)) (now (dst .entry)) len) ⌝ }
-{
-    let sum = add_bytes(add_bytes(0, src), dst);
-    if src.len() == 4 {
-        return add_tail4(sum, len);
-    }
-    add_tail6(sum, len)
 }
 
 // Whether the checksum of a segment between two addresses is right.

@@ -2,12 +2,12 @@
 use crate::number::long_at;
 use crate::number::word_at;
 ghost use mathlib.Core.Path.{_≡_};
-ghost use mathlib.Core.Bool.{true, false};
 ghost use Prim.Native.Nat.{_≤_};
 ghost use lib.ListN.{length};
 ghost use Rattle.segment.specs.Bytes.{byteAt};
 ghost use Rattle.segment.specs.Header.{malformed, fieldsOf, shapeOf, optionArea, payloadOf, SYN, has, kindOf, synAck};
 
+// The fields of a header. The offset is its length in 32-bit words.
 pub struct Header {
     pub source: u16,
     pub dest: u16,
@@ -49,6 +49,7 @@ pub fn is_malformed(seg: &[u8]) -> bool
     n < 4 * offset
 }
 
+// The fields of a segment that is long enough to have a header.
 fn fields(seg: &[u8]) -> Header
     requires { ⌜ 20 ≤ length (now seg) ⌝ }
     ensures { λ r. ⌜ r ≡ fieldsOf (now (seg .entry)) ⌝ }
@@ -63,6 +64,7 @@ fn fields(seg: &[u8]) -> Header
     }
 }
 
+// The header of a segment, or that it is malformed.
 pub fn read_header(seg: &[u8]) -> Shape
     ensures { λ r. ⌜ r ≡ shapeOf (now (seg .entry)) ⌝ }
 {
@@ -95,13 +97,13 @@ pub fn payload(seg: &[u8]) -> &[u8]
 }
 
 // The control bits, by their weight in the flags.
-const FIN: u8 = 1;
+pub(crate) const FIN: u8 = 1;
 
-const SYN: u8 = 2;
+pub(crate) const SYN: u8 = 2;
 
-const RST: u8 = 4;
+pub(crate) const RST: u8 = 4;
 
-const ACK: u8 = 16;
+pub(crate) const ACK: u8 = 16;
 
 fn has_bit(flags: u8, bit: u8) -> bool
     requires { ⌜ 1 ≤ bit ⌝ }

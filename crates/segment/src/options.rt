@@ -3,14 +3,14 @@ use crate::header::has_syn;
 use crate::header::option_area;
 use crate::number::word_at;
 ghost use mathlib.Core.Path.{_≡_};
-ghost use Prim.Native.Nat.{_+_, _^_, _≤_, _<_};
+ghost use Prim.Native.Nat.{_+_, _≤_};
 ghost use lib.ListN.{length, take, drop};
 ghost use Rattle.segment.specs.Options.{mssOption, fastOpenOption, firstMss, firstFastOpen, withOption, readOptions, optionsOf, cookieBytes};
 
 // The maximum segment size, if an option gave one.
 pub enum Mss {
-    Unseen,
-    Is(u16),
+    NotGiven,
+    Given(u16),
 }
 
 // The Fast Open option: none, an empty one that asks for a cookie, or a cookie by its place in the area.
@@ -30,8 +30,8 @@ fn first_mss(found: Mss, next: Mss) -> Mss
     ensures { λ r. ⌜ r ≡ firstMss found next ⌝ }
 {
     match found {
-        Mss::Unseen => next,
-        Mss::Is(v) => Mss::Is(v),
+        Mss::NotGiven => next,
+        Mss::Given(v) => Mss::Given(v),
     }
 }
 
@@ -51,17 +51,17 @@ fn mss_option(area: &[u8], i: usize, len: usize) -> Mss
 {
     if area[i] == 2 {
         if len == 4 {
-            return Mss::Is(word_at(area, i + 2));
+            return Mss::Given(word_at(area, i + 2));
         }
     }
-    Mss::Unseen
+    Mss::NotGiven
 }
 
-fn fast_open_option(kind: u8, i: usize, len: usize) -> FastOpen
-    requires { ⌜ i + len < 2 ^ 64 ⌝ }
-    ensures { λ r. ⌜ r ≡ fastOpenOption kind i len ⌝ }
+fn fast_open_option(area: &[u8], i: usize, len: usize) -> FastOpen
+    requires { ⌜ (2 ≤ len) × (i + len ≤ length (now area)) ⌝ }
+    ensures { λ r. ⌜ r ≡ fastOpenOption (now (area .entry)) i len ⌝ }
 {
-    if kind == 34 {
+    if area[i] == 34 {
         if len == 2 {
             return FastOpen::Request;
         }
@@ -88,7 +88,7 @@ fn with_option(found: Options, area: &[u8], i: usize, len: usize) -> Options
     let fast = found.fast;
     Options {
         mss: first_mss(mss, mss_option(area, i, len)),
-        fast: first_fast_open(fast, fast_open_option(area[i], i, len)),
+        fast: first_fast_open(fast, fast_open_option(area, i, len)),
     }
 }
 
@@ -98,7 +98,7 @@ pub fn read_options(area: &[u8]) -> Options
 {
     let n = area.len();
     let mut found = Options {
-        mss: Mss::Unseen,
+        mss: Mss::NotGiven,
         fast: FastOpen::Absent,
     };
     let mut i = 0;

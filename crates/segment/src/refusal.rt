@@ -4,7 +4,7 @@ ghost use Rattle.segment.specs.Refusal.{numberOf, answered};
 
 // Why a call is refused. When each is given is document 01's table, "Numbers returned".
 pub enum Refusal {
-    Shape,
+    Format,
     Address,
     Checksum,
     Port,
@@ -30,7 +30,7 @@ pub fn number(why: Refusal) -> u8
     ensures { λ r. ⌜ r ≡ numberOf why ⌝ }
 {
     match why {
-        Refusal::Shape => 1,
+        Refusal::Format => 1,
         Refusal::Address => 2,
         Refusal::Checksum => 3,
         Refusal::Port => 4,

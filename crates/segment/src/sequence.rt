@@ -2,7 +2,7 @@
 use std::num::wrapping_add_u32;
 use std::num::wrapping_sub_u32;
 ghost use mathlib.Core.Path.{_≡_};
-ghost use Rattle.segment.specs.Sequence.{nextAfter, past, inWindow, acknowledged};
+ghost use Rattle.segment.specs.Sequence.{nextAfter, inWindow, acknowledged};
 
 // The number after an initial number and so many bytes of data: document 01's acknowledgement and expected number.
 pub fn next_after(initial: u32, bytes: u32) -> u32
@@ -11,22 +11,16 @@ pub fn next_after(initial: u32, bytes: u32) -> u32
     wrapping_add_u32(wrapping_add_u32(initial, 1), bytes)
 }
 
-fn how_far_past(a: u32, b: u32) -> u32
-    ensures { λ r. ⌜ r ≡ past a b ⌝ }
-{
-    wrapping_sub_u32(a, b)
-}
-
 // Whether a completion's sequence number is admitted.
 pub fn in_window(expected: u32, seq: u32) -> bool
     ensures { λ r. ⌜ r ≡ inWindow expected seq ⌝ }
 {
-    how_far_past(seq, expected) < 65535
+    wrapping_sub_u32(seq, expected) < 65535
 }
 
 // How many bytes sent with an opening its answer acknowledges. (More than were sent is for the caller to refuse.)
 pub fn acknowledged_bytes(iss: u32, ack: u32) -> u32
     ensures { λ r. ⌜ r ≡ acknowledged iss ack ⌝ }
 {
-    how_far_past(how_far_past(ack, iss), 1)
+    wrapping_sub_u32(wrapping_sub_u32(ack, iss), 1)
 }

@@ -1,18 +1,21 @@
 // The segments that are written: the listener's answer and the client's opening (RFC 9293, 3.1; RFC 7413, 4.1.1).
 //
-// A write leaves its bytes at the output's start and the later bytes as they were, and answers how many bytes it wrote. Where it
-// cannot be done, the output is too short or the addresses are not of one family, nothing is written and the answer is 0.
+// A write leaves its bytes at the output's start and the later bytes as they were, and answers how many bytes it wrote. Nothing is
+// written, and the answer is 0, where the output is too short, the addresses are not of one family, the cookie has a length that no
+// option may have, or the segment would have more than 1,520 bytes (`canWrite` in specs/Write.antt).
 use crate::checksum::add_bytes;
 use crate::checksum::is_one_family;
 use crate::checksum::pseudo_sum;
+use crate::header::ACK;
+use crate::header::SYN;
 use crate::sequence::next_after;
 ghost use mathlib.Core.Path.{_≡_};
-ghost use mathlib.Core.Bool.{Bool, true, cond};
+ghost use mathlib.Core.Bool.{true};
 ghost use mathlib.Core.List.{_++_};
-ghost use Prim.Native.Nat.{_+_, _-_, _*_, _/_, _≤_, _<_};
+ghost use Prim.Native.Nat.{_+_, _-_, _≤_, _<_};
 ghost use lib.ListN.{length, take, drop, replicate};
 ghost use Rattle.segment.specs.Checksum.{onesSum, complement, oneFamily, pseudoHeader};
-ghost use Rattle.segment.specs.Write.{padding, optionBytes, headerBytes, optionsFor, capped, canWrite, written, overwrite, answerBytes, openingBytes};
+ghost use Rattle.segment.specs.Write.{padding, optionBytes, headerBytes, optionsFor, optionLength, writableLength, written, overwrite, answerBytes, openingBytes};
 
 // What a segment is to say, besides its cookie and its data. `fast`: with a Fast Open option.
 pub(crate) struct Outgoing {
@@ -48,7 +51,8 @@ pub struct Opening {
 // Puts bytes at a place, and says where they end.
 fn append(out: &mut [u8], at: usize, src: &[u8]) -> usize
     requires { ⌜ at + length (now src) ≤ length (now out) ⌝ }
-    ensures { λ r. ⌜ (r ≡ at + length (now (src .entry))) × (now (out .exit) ≡ take at (now (out .entry)) ++ (now (src .entry) ++ drop (at + length (now (src .entry))) (now (out .entry)))) ⌝ }
+    ensures { λ r. ⌜ r ≡ at + length (now (src .entry)) ⌝ }
+    ensures { λ _. ⌜ now (out .exit) ≡ take at (now (out .entry)) ++ (now (src .entry) ++ drop (at + length (now (src .entry))) (now (out .entry))) ⌝ }
 {
     let n = bytes::copy(src, &mut out[at..]);
     at + n
@@ -57,7 +61,8 @@ fn append(out: &mut [u8], at: usize, src: &[u8]) -> usize
 // Kind 1 up to a multiple of four.
 fn pad(out: &mut [u8], at: usize) -> usize
     requires { ⌜ at + padding at ≤ length (now out) ⌝ }
-    ensures { λ r. ⌜ (r ≡ at + padding at) × (now (out .exit) ≡ take at (now (out .entry)) ++ (replicate (padding at) 1 ++ drop (at + padding at) (now (out .entry)))) ⌝ }
+    ensures { λ r. ⌜ r ≡ at + padding at ⌝ }
+    ensures { λ _. ⌜ now (out .exit) ≡ take at (now (out .entry)) ++ (replicate (padding at) 1 ++ drop (at + padding at) (now (out .entry))) ⌝ }
 {
     let ones = [1u8, 1u8, 1u8];
     let n = (4 - at % 4) % 4;
@@ -67,7 +72,8 @@ fn pad(out: &mut [u8], at: usize) -> usize
 // The option writer, lent the output from byte 20.
 fn put_options(out: &mut [u8], mss: u16, fast: bool, cookie: &[u8]) -> usize
     requires { ⌜ (length (optionBytes mss fast (now cookie)) ≤ 40) × (length (optionBytes mss fast (now cookie)) ≤ length (now out)) ⌝ }
-    ensures { λ r. ⌜ (r ≡ length (optionBytes mss fast (now (cookie .entry)))) × (now (out .exit) ≡ overwrite (optionBytes mss fast (now (cookie .entry))) (now (out .entry))) ⌝ }
+    ensures { λ r. ⌜ r ≡ length (optionBytes mss fast (now (cookie .entry))) ⌝ }
+    ensures { λ _. ⌜ now (out .exit) ≡ overwrite (optionBytes mss fast (now (cookie .entry))) (now (out .entry)) ⌝ }
 {
     let size = [2, 4, (mss / 256 % 256) as u8, (mss % 256) as u8];
     let a = append(out, 0, &size);
@@ -83,7 +89,8 @@ fn put_options(out: &mut [u8], mss: u16, fast: bool, cookie: &[u8]) -> usize
 // Options and payload, from byte 20 on. The data copier is lent the output after the header. Answers the length of the options.
 fn put_body(out: &mut [u8], f: Outgoing, cookie: &[u8], payload: &[u8]) -> usize
     requires { ⌜ (length (optionsFor f (now cookie)) ≤ 40) × (20 + length (optionsFor f (now cookie)) + length (now payload) ≤ length (now out)) ⌝ }
-    ensures { λ r. ⌜ (r ≡ length (optionsFor f (now (cookie .entry)))) × (now (out .exit) ≡ take 20 (now (out .entry)) ++ (optionsFor f (now (cookie .entry)) ++ (now (payload .entry) ++ drop (20 + r + length (now (payload .entry))) (now (out .entry))))) ⌝ }
+    ensures { λ r. ⌜ r ≡ length (optionsFor f (now (cookie .entry))) ⌝ }
+    ensures { λ r. ⌜ now (out .exit) ≡ take 20 (now (out .entry)) ++ (optionsFor f (now (cookie .entry)) ++ (now (payload .entry) ++ drop (20 + r + length (now (payload .entry))) (now (out .entry)))) ⌝ }
 {
     let m = put_options(&mut out[20..], f.mss, f.fast, cookie);
     let end = 20 + m;
@@ -91,9 +98,10 @@ fn put_body(out: &mut [u8], f: Outgoing, cookie: &[u8], payload: &[u8]) -> usize
     m
 }
 
-fn header(f: Outgoing, words: u8, check: u16) -> [u8; 20]
-    requires { ⌜ words < 16 ⌝ }
-    ensures { λ r. ⌜ r ≡ headerBytes f words check ⌝ }
+// A header by value: window 65,535, urgent 0.
+fn header(f: Outgoing, offset: u8, check: u16) -> [u8; 20]
+    requires { ⌜ offset < 16 ⌝ }
+    ensures { λ r. ⌜ r ≡ headerBytes f offset check ⌝ }
 {
     [
         (f.source / 256 % 256) as u8,
@@ -108,7 +116,7 @@ fn header(f: Outgoing, words: u8, check: u16) -> [u8; 20]
         (f.ack / 65536 % 256) as u8,
         (f.ack / 256 % 256) as u8,
         (f.ack % 256) as u8,
-        words * 16,
+        offset * 16,
         f.flags,
         255,
         255,
@@ -120,38 +128,50 @@ fn header(f: Outgoing, words: u8, check: u16) -> [u8; 20]
 }
 
 // The header of a segment of n bytes whose options and data stand from byte 20 on.
-fn put_header(out: &mut [u8], src: &[u8], dst: &[u8], f: Outgoing, words: u8, n: usize)
-    requires { ⌜ (oneFamily (now src) (now dst) ≡ true) × ((words < 16) × ((20 ≤ n) × (n ≤ length (now out)))) ⌝ }
-    ensures { λ _. ⌜ now (out .exit) ≡ headerBytes f words (complement (onesSum 0 (pseudoHeader (now (src .entry)) (now (dst .entry)) n ++ (headerBytes f words 0 ++ take (n - 20) (drop 20 (now (out .entry))))))) ++ drop 20 (now (out .entry)) ⌝ }
+fn put_header(out: &mut [u8], src: &[u8], dst: &[u8], f: Outgoing, offset: u8, n: usize)
+    requires { ⌜ (oneFamily (now src) (now dst) ≡ true) × ((offset < 16) × ((20 ≤ n) × (n ≤ length (now out)))) ⌝ }
+    ensures { λ _. ⌜ now (out .exit) ≡ headerBytes f offset (complement (onesSum 0 (pseudoHeader (now (src .entry)) (now (dst .entry)) n ++ (headerBytes f offset 0 ++ take (n - 20) (drop 20 (now (out .entry))))))) ++ drop 20 (now (out .entry)) ⌝ }
 {
-    let unsigned = header(f, words, 0);
-    let sum = add_bytes(add_bytes(pseudo_sum(src, dst, n), &unsigned), &out[20..n]);
-    let signed = header(f, words, 65535 - sum);
-    bytes::copy(&signed, out);
+    let without_checksum = header(f, offset, 0);
+    let sum = add_bytes(
+        add_bytes(pseudo_sum(src, dst, n), &without_checksum),
+        &out[20..n],
+    );
+    let with_checksum = header(f, offset, 65535 - sum);
+    bytes::copy(&with_checksum, out);
 }
 
-// The length of the options; 44 where they are longer than an option area.
-fn option_length(f: Outgoing, cookie: &[u8]) -> usize
-    ensures { λ r. ⌜ r ≡ capped (length (optionsFor f (now (cookie .entry)))) ⌝ }
+// The length of the options, or 0 where the cookie has a length that no option may have.
+fn option_length(fast: bool, cookie: usize) -> usize
+    ensures { λ r. ⌜ (r ≡ optionLength fast cookie) × (r ≤ 24) ⌝ }
 {
-    if !f.fast {
+    if !fast {
         return 4;
     }
-    let n = cookie.len();
-    if 34 < n {
-        return 44;
+    if cookie == 0 {
+        return 8;
     }
-    4 + (n + 5) / 4 * 4
+    if cookie < 4 {
+        return 0;
+    }
+    if 16 < cookie {
+        return 0;
+    }
+    if cookie % 2 != 0 {
+        return 0;
+    }
+    4 + (cookie + 5) / 4 * 4
 }
 
 // The length of a segment that can be written, else 0.
-fn writable(family: bool, options: usize, payload: usize, room: usize) -> usize
-    ensures { λ r. ⌜ r ≡ cond (canWrite family options payload room) (20 + options + payload) 0 ⌝ }
+fn writable_length(family: bool, options: usize, payload: usize, room: usize) -> usize
+    requires { ⌜ options ≤ 24 ⌝ }
+    ensures { λ r. ⌜ r ≡ writableLength family options payload room ⌝ }
 {
     if !family {
         return 0;
     }
-    if 40 < options {
+    if options == 0 {
         return 0;
     }
     if 1500 - options < payload {
@@ -164,6 +184,7 @@ fn writable(family: bool, options: usize, payload: usize, room: usize) -> usize
     n
 }
 
+// Writes a segment; nothing, and answers 0, where it cannot be written.
 fn write_segment(
     out: &mut [u8],
     src: &[u8],
@@ -172,10 +193,11 @@ fn write_segment(
     cookie: &[u8],
     payload: &[u8],
 ) -> usize
-    ensures { λ r. ⌜ (r ≡ length (written (now (src .entry)) (now (dst .entry)) f (now (cookie .entry)) (now (payload .entry)) (length (now (out .entry))))) × (now (out .exit) ≡ overwrite (written (now (src .entry)) (now (dst .entry)) f (now (cookie .entry)) (now (payload .entry)) (length (now (out .entry)))) (now (out .entry))) ⌝ }
+    ensures { λ r. ⌜ r ≡ length (written (now (src .entry)) (now (dst .entry)) f (now (cookie .entry)) (now (payload .entry)) (length (now (out .entry)))) ⌝ }
+    ensures { λ _. ⌜ now (out .exit) ≡ overwrite (written (now (src .entry)) (now (dst .entry)) f (now (cookie .entry)) (now (payload .entry)) (length (now (out .entry)))) (now (out .entry)) ⌝ }
 {
-    let m = option_length(f, cookie);
-    let n = writable(is_one_family(src, dst), m, payload.len(), out.len());
+    let m = option_length(f.fast, cookie.len());
+    let n = writable_length(is_one_family(src, dst), m, payload.len(), out.len());
     if n == 0 {
         return 0;
     }
@@ -184,23 +206,24 @@ fn write_segment(
     n
 }
 
-// Writes the answer to an opening: 24 bytes, or 36 with a fresh cookie.
+// Writes the answer to an opening: 24 bytes, or 36 with a fresh cookie; none, and answers 0, where it cannot be written.
 pub fn write_answer(out: &mut [u8], src: &[u8], dst: &[u8], a: Answer, cookie: [u8; 8]) -> usize
-    ensures { λ r. ⌜ (r ≡ length (answerBytes (now (src .entry)) (now (dst .entry)) a cookie (length (now (out .entry))))) × (now (out .exit) ≡ overwrite (answerBytes (now (src .entry)) (now (dst .entry)) a cookie (length (now (out .entry)))) (now (out .entry))) ⌝ }
+    ensures { λ r. ⌜ r ≡ length (answerBytes (now (src .entry)) (now (dst .entry)) a cookie (length (now (out .entry)))) ⌝ }
+    ensures { λ _. ⌜ now (out .exit) ≡ overwrite (answerBytes (now (src .entry)) (now (dst .entry)) a cookie (length (now (out .entry)))) (now (out .entry)) ⌝ }
 {
     let f = Outgoing {
         source: a.source,
         dest: a.dest,
         seq: a.iss,
         ack: next_after(a.irs, a.accepted),
-        flags: 18,
+        flags: SYN + ACK,
         mss: a.mss,
         fast: a.fresh,
     };
     write_segment(out, src, dst, f, &cookie, &src[..0])
 }
 
-// Writes an opening with its options and its payload.
+// Writes an opening with its options and its payload; nothing, and answers 0, where it cannot be written.
 pub fn write_opening(
     out: &mut [u8],
     src: &[u8],
@@ -209,14 +232,15 @@ pub fn write_opening(
     cookie: &[u8],
     payload: &[u8],
 ) -> usize
-    ensures { λ r. ⌜ (r ≡ length (openingBytes (now (src .entry)) (now (dst .entry)) o (now (cookie .entry)) (now (payload .entry)) (length (now (out .entry))))) × (now (out .exit) ≡ overwrite (openingBytes (now (src .entry)) (now (dst .entry)) o (now (cookie .entry)) (now (payload .entry)) (length (now (out .entry)))) (now (out .entry))) ⌝ }
+    ensures { λ r. ⌜ r ≡ length (openingBytes (now (src .entry)) (now (dst .entry)) o (now (cookie .entry)) (now (payload .entry)) (length (now (out .entry)))) ⌝ }
+    ensures { λ _. ⌜ now (out .exit) ≡ overwrite (openingBytes (now (src .entry)) (now (dst .entry)) o (now (cookie .entry)) (now (payload .entry)) (length (now (out .entry)))) (now (out .entry)) ⌝ }
 {
     let f = Outgoing {
         source: o.source,
         dest: o.dest,
         seq: o.iss,
         ack: 0,
-        flags: 2,
+        flags: SYN,
         mss: o.mss,
         fast: o.fast,
     };

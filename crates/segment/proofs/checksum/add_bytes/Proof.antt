@@ -1,11 +1,9 @@
 -- `segment::checksum::add_bytes` meets its contract.
 -- Assumes nothing.
 use native.Mathlib.Omega.{arith}
-use Prim.Native.Nat.{_+_, _-_, _*_, _≤_}
-use native.Mathlib.Nat.{add-zero}
+use Prim.Native.Nat.{_-_, _≤_}
 use mathlib.Core.Path.{_≡_, refl}
 use lib.ListN.{length, drop}
-use Rattle.segment.specs.Bytes.{byteAt}
 use Rattle.segment.specs.Checksum.{onesSum}
 use Rattle.segment.proofs.Sums.{two, last, none}
 use borrow.Author.Needs.{needs}

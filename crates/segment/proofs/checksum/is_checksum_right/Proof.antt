@@ -1,8 +1,6 @@
 -- `segment::checksum::is_checksum_right` meets its contract.
 -- Assumes nothing.
-use mathlib.Core.Path.{_∙_, sym, ap}
-use Prim.Native.Nat.{ℕ}
-use lib.Dec.{eqb}
+use mathlib.Core.Path.{_∙_, sym}
 use borrow.Author.Tests.{not-true, not-false}
 use Rattle.segment.specs.Checksum.{checksumRight}
 use Rattle.segment.proofs.Family.{family, segment-parts}

@@ -1,10 +1,8 @@
 -- `segment::checksum::pseudo_sum` meets its contract.
 -- Assumes nothing.
+use mathlib.Core.Path.{_∙_}
 use borrow.Author.Needs.{needs}
-use mathlib.Core.Path.{_∙_, sym, ap}
-use mathlib.Core.Bool.{Bool}
 use borrow.Author.Tests.{eq-eqb, ne-eqb}
-use Rattle.segment.specs.Checksum.{onesSum, pseudoTail}
 use Rattle.segment.proofs.Family.{family, pseudo-parts}
 use Rattle.segment.proofs.checksum.pseudo_sum.Statement.{statement}
 use Rattle.segment.proofs.checksum.pseudo_sum.Tie as tie
@@ -15,27 +13,49 @@ add-bytes-requires c κs = search needs
 add-bytes-requires-2 : tie.Need-add-bytes-requires-2
 add-bytes-requires-2 c κs = search needs
 
-add-tail4-requires : tie.Need-add-tail4-requires
-add-tail4-requires c κs = search needs
+cast-t12 : tie.Need-cast-t12
+cast-t12 c = search needs
+
+cast-t14 : tie.Need-cast-t14
+cast-t14 c = search needs
+
+slice-aggregate-add-bytes : tie.Need-slice-aggregate-add-bytes
+slice-aggregate-add-bytes c = search needs
+
+add-bytes-requires-3 : tie.Need-add-bytes-requires-3
+add-bytes-requires-3 c κs = search needs
 
 returns : tie.Need-returns
 returns c =
-    let a = c .before .before .before .before .before .before .args in
-    let e = eq-eqb _ _ (c .before .if1 .taken) in
-    let p = pseudo-parts (a .src .now) (a .dst .now) (a .len) (family _ _ (c .before .before .before .before .before .before .pre)) in
-    let q = rw e at p in
-    cc
+    let s = c .before .before .before .before .before .before .before in
+    let p = pseudo-parts (s .args .src .now) (s .args .dst .now) (s .args .len) (family _ _ (s .pre)) in
+    let q = rw (eq-eqb _ _ (c .before .before .if1 .taken)) at p in
+    rw (c .before .before .before .add-bytes2 .ensures, c .before .before .before .before .add-bytes .ensures) at (c .add-bytes3 .ensures) ∙ q
 
-add-tail6-requires : tie.Need-add-tail6-requires
-add-tail6-requires c κs = search needs
+cast-t18 : tie.Need-cast-t18
+cast-t18 c = search needs
+
+cast-t21 : tie.Need-cast-t21
+cast-t21 c = search needs
+
+cast-t24 : tie.Need-cast-t24
+cast-t24 c = search needs
+
+cast-t26 : tie.Need-cast-t26
+cast-t26 c = search needs
+
+slice-aggregate-add-bytes-2 : tie.Need-slice-aggregate-add-bytes-2
+slice-aggregate-add-bytes-2 c = search needs
+
+add-bytes-requires-4 : tie.Need-add-bytes-requires-4
+add-bytes-requires-4 c κs = search needs
 
 returns-2 : tie.Need-returns-2
 returns-2 c =
-    let a = c .before .before .before .before .before .before .args in
-    let e = ne-eqb _ _ (c .before .if1 .left) in
-    let p = pseudo-parts (a .src .now) (a .dst .now) (a .len) (family _ _ (c .before .before .before .before .before .before .pre)) in
-    let q = rw e at p in
-    cc
+    let s = c .before .before .before .before .before .before .before in
+    let p = pseudo-parts (s .args .src .now) (s .args .dst .now) (s .args .len) (family _ _ (s .pre)) in
+    let q = rw (ne-eqb _ _ (c .before .before .if1 .left)) at p in
+    rw (c .before .before .before .add-bytes2 .ensures, c .before .before .before .before .add-bytes .ensures) at (c .add-bytes4 .ensures) ∙ q
 
 pub pseudo-sum-spec : {M : Type 1} → statement M
 pseudo-sum-spec =
@@ -43,7 +63,15 @@ pseudo-sum-spec =
     (tie.spec
     add-bytes-requires
     add-bytes-requires-2
-    add-tail4-requires
+    cast-t12
+    cast-t14
+    slice-aggregate-add-bytes
+    add-bytes-requires-3
     returns
-    add-tail6-requires
+    cast-t18
+    cast-t21
+    cast-t24
+    cast-t26
+    slice-aggregate-add-bytes-2
+    add-bytes-requires-4
     returns-2)

@@ -1,6 +1,5 @@
 -- `segment::header::is_malformed` meets its contract.
 -- Assumes nothing.
-use mathlib.Core.Bool.{false}
 use native.Mathlib.Omega.{arith}
 use borrow.Author.Tests.{lt-ltb, le-ltb}
 use Rattle.segment.specs.Header.{malformed}

@@ -1,6 +1,6 @@
 -- `segment::header::option_area` meets its contract.
 -- Assumes nothing.
-use mathlib.Core.Path.{sym, _∙_, ap}
+use mathlib.Core.Path.{sym, _∙_}
 use native.Mathlib.Omega.{arith}
 use Rattle.segment.specs.Header.{optionArea}
 use Rattle.segment.proofs.Formed.{formed}

@@ -2,7 +2,7 @@
 -- Assumes nothing.
 use Rattle.segment.specs.Header.{headerLength}
 use Prim.Native.Nat.{_-_}
-use mathlib.Core.Path.{sym, _∙_, ap}
+use mathlib.Core.Path.{sym, _∙_}
 use native.Mathlib.Omega.{arith}
 use lib.ListN.{drop, length, length-drop}
 use lib.Seq.{take-all}

@@ -1,6 +1,6 @@
 -- `segment::header::read_header` meets its contract.
 -- Assumes nothing.
-use mathlib.Core.Path.{sym, _∙_, ap}
+use mathlib.Core.Path.{sym, _∙_}
 use native.Mathlib.Omega.{arith}
 use Rattle.segment.specs.Header.{shapeOf}
 use Rattle.segment.proofs.Formed.{formed}

@@ -6,15 +6,18 @@ use borrow.Author.Needs.{needs}
 use Rattle.segment.proofs.options.fast_open_option.Statement.{statement}
 use Rattle.segment.proofs.options.fast_open_option.Tie as tie
 
+shared-slice-read-if1 : tie.Need-shared-slice-read-if1
+shared-slice-read-if1 c = search needs
+
 returns : tie.Need-returns
 unfolding fastOpenOption
 returns c = simp (eq-eqb _ _ (c .before .if1 .taken), eq-eqb _ _ (c .if2 .taken))
 
-add-t9 : tie.Need-add-t9
-add-t9 c = search needs
+add-t11 : tie.Need-add-t11
+add-t11 c = search needs
 
-sub-t10 : tie.Need-sub-t10
-sub-t10 c = search needs
+sub-t12 : tie.Need-sub-t12
+sub-t12 c = search needs
 
 returns-2 : tie.Need-returns-2
 unfolding fastOpenOption
@@ -38,4 +41,14 @@ returns-6 c = simp (ne-eqb _ _ (c .if1 .left))
 
 pub fast-open-option-spec : {M : Type 1} → statement M
 fast-open-option-spec =
-    tie.close (tie.spec returns add-t9 sub-t10 returns-2 returns-3 returns-4 returns-5 returns-6)
+    tie.close
+    (tie.spec
+    shared-slice-read-if1
+    returns
+    add-t11
+    sub-t12
+    returns-2
+    returns-3
+    returns-4
+    returns-5
+    returns-6)

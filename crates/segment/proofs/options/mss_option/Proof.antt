@@ -1,6 +1,5 @@
 -- `segment::options::mss_option` meets its contract.
 -- Assumes nothing.
-use mathlib.Core.Path.{refl, _∙_}
 use borrow.Author.Tests.{eq-eqb, ne-eqb}
 use Rattle.segment.specs.Options.{mssOption}
 use borrow.Author.Needs.{needs}

@@ -1,4 +1,4 @@
--- `segment::options::read_options` meets its contract: one way on and five ways out, each a case of one turn.
+-- `segment::options::read_options` meets its contract: one way on and five ways out, each a case of one step.
 -- Assumes nothing.
 use borrow.Author.Needs.{needs}
 use borrow.Author.Tests.{eq-eqb, ne-eqb, le-leb, lt-leb}
@@ -9,7 +9,7 @@ use mathlib.Core.List.{List}
 use lib.ListN.{length, drop-of-length-le, List·getD-eq-default}
 use Rattle.segment.specs.Bytes.{byteAt}
 use Rattle.segment.specs.Options.{readOptions, readFrom}
-use Rattle.segment.proofs.Reading.{readAt, turned}
+use Rattle.segment.proofs.Reading.{readAt, one-step}
 use Rattle.segment.proofs.options.read_options.Statement.{statement}
 use Rattle.segment.proofs.options.read_options.Tie as tie
 
@@ -29,7 +29,7 @@ shared-slice-read-kind c = search needs
 returns : tie.Need-returns Inv-loop μ-loop
 returns c =
     let q = c .before .before .before .loop in
-    let e = turned (c .before .before .before .before .before .args .area .now) (q .i) (q .found) (omega arith) in
+    let e = one-step (c .before .before .before .before .before .args .area .now) (q .i) (q .found) (omega arith) in
     sym (simp (eq-eqb _ _ (c .if1 .taken)) at e) ∙ q .inv .1 .1
 
 add-i : tie.Need-add-i Inv-loop μ-loop
@@ -41,7 +41,7 @@ loop-less c = search needs
 loop-again : tie.Need-loop-again Inv-loop μ-loop
 loop-again c =
     let q = c .before .before .before .before .loop in
-    let e = turned (c .before .before .before .before .before .before .args .area .now) (q .i) (q .found) (omega arith) in
+    let e = one-step (c .before .before .before .before .before .before .args .area .now) (q .i) (q .found) (omega arith) in
     (refl, (search needs, sym (simp (ne-eqb _ _ (c .before .if1 .left), eq-eqb _ _ (c .if2 .taken)) at e) ∙ q .inv .1 .1))
 
 sub-if3 : tie.Need-sub-if3 Inv-loop μ-loop
@@ -51,7 +51,7 @@ returns-2 : tie.Need-returns-2 Inv-loop μ-loop
 returns-2 c =
     let q = c .before .before .before .before .before .loop in
     let s = c .before .before .before .before .before .before .before .args .area .now in
-    let e = turned s (q .i) (q .found) (omega arith) in
+    let e = one-step s (q .i) (q .found) (omega arith) in
     let z : length s ≤ q .i + 1 = omega arith in
     sym (simp (ne-eqb _ _ (c .before .before .if1 .left), ne-eqb _ _ (c .before .if2 .left), List·getD-eq-default s 0 z) at e) ∙ q .inv .1 .1
 
@@ -67,7 +67,7 @@ cast-len c = omega (arith, c .shared-slice-known3 .given (c .before .before .bef
 returns-3 : tie.Need-returns-3 Inv-loop μ-loop
 returns-3 c =
     let q = c .before .before .before .before .before .before .before .loop in
-    let e = turned (c .before .before .before .before .before .before .before .before .before .args .area .now) (q .i) (q .found) (omega arith) in
+    let e = one-step (c .before .before .before .before .before .before .before .before .before .args .area .now) (q .i) (q .found) (omega arith) in
     sym (simp (ne-eqb _ _ (c .before .before .before .before .if1 .left), ne-eqb _ _ (c .before .before .before .if2 .left), lt-leb _ _ (c .if4 .taken)) at e) ∙ q .inv .1 .1
 
 sub-if5 : tie.Need-sub-if5 Inv-loop μ-loop
@@ -76,7 +76,7 @@ sub-if5 c = search needs
 returns-4 : tie.Need-returns-4 Inv-loop μ-loop
 returns-4 c =
     let q = c .before .before .before .before .before .before .before .before .loop in
-    let e = turned (c .before .before .before .before .before .before .before .before .before .before .args .area .now) (q .i) (q .found) (omega arith) in
+    let e = one-step (c .before .before .before .before .before .before .before .before .before .before .args .area .now) (q .i) (q .found) (omega arith) in
     sym (simp (ne-eqb _ _ (c .before .before .before .before .before .if1 .left), ne-eqb _ _ (c .before .before .before .before .if2 .left), le-leb _ _ (c .before .if4 .left), lt-leb _ _ (c .if5 .taken)) at e) ∙ q .inv .1 .1
 
 with-option-requires : tie.Need-with-option-requires Inv-loop μ-loop
@@ -92,7 +92,7 @@ loop-again-2 : tie.Need-loop-again-2 Inv-loop μ-loop
 loop-again-2 c =
     let q = c .before .before .before .before .before .before .before .before .before .loop in
     let s = c .before .before .before .before .before .before .before .before .before .before .before .args .area .now in
-    let e = turned s (q .i) (q .found) (omega arith) in
+    let e = one-step s (q .i) (q .found) (omega arith) in
     let g = simp (ne-eqb _ _ (c .before .before .before .before .before .before .if1 .left), ne-eqb _ _ (c .before .before .before .before .before .if2 .left), le-leb _ _ (c .before .before .if4 .left), le-leb _ _ (c .before .if5 .left)) at e in
     let p : q .i + 1 + (byteAt s (q .i + 1) - 1) ≡ q .i + byteAt s (q .i + 1) = omega arith in
     (refl, (omega arith, cc))

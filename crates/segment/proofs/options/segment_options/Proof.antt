@@ -1,6 +1,6 @@
 -- `segment::options::segment_options` meets its contract.
 -- Assumes nothing.
-use mathlib.Core.Path.{sym, _∙_, ap}
+use mathlib.Core.Path.{sym, _∙_}
 use Rattle.segment.specs.Options.{optionsOf}
 use borrow.Author.Needs.{needs}
 use mathlib.Core.Path.{sym, _∙_}

@@ -1,15 +1,30 @@
 -- `segment::write::option_length` meets its contract.
 -- Assumes nothing.
-use Rattle.segment.proofs.Writes.{capped-plain, capped-long, capped-short}
+use native.Mathlib.Omega.{arith}
+use borrow.Author.Tests.{eq-eqb, ne-eqb, le-leb, lt-leb, not-false}
+use Rattle.segment.specs.Write.{cookieSize}
 use borrow.Author.Needs.{needs}
 use Rattle.segment.proofs.write.option_length.Statement.{statement}
 use Rattle.segment.proofs.write.option_length.Tie as tie
 
 returns : tie.Need-returns
-returns c = capped-plain (c .before .before .args .f .mss) (c .before .before .args .f .fast) (c .before .before .args .cookie .now) (c .if1 .taken)
+returns c = search needs
 
 returns-2 : tie.Need-returns-2
-returns-2 c = capped-long (c .before .before .before .args .f .mss) (c .before .before .before .args .f .fast) (c .before .before .before .args .cookie .now) (c .before .if1 .left) (c .if2 .taken)
+unfolding cookieSize
+returns-2 c = (simp (not-false (c .before .before .args .fast) (c .before .if1 .left), eq-eqb _ _ (c .if2 .taken)) (omega arith), omega arith)
+
+returns-3 : tie.Need-returns-3
+unfolding cookieSize
+returns-3 c = (simp (not-false (c .before .before .before .args .fast) (c .before .before .if1 .left), ne-eqb _ _ (c .before .if2 .left), lt-leb _ _ (c .if3 .taken)), omega arith)
+
+returns-4 : tie.Need-returns-4
+unfolding cookieSize
+returns-4 c = (simp (not-false (c .before .before .before .before .args .fast) (c .before .before .before .if1 .left), ne-eqb _ _ (c .before .before .if2 .left), le-leb _ _ (c .before .if3 .left), lt-leb _ _ (c .if4 .taken)), omega arith)
+
+returns-5 : tie.Need-returns-5
+unfolding cookieSize
+returns-5 c = (simp (not-false (c .before .before .before .before .before .args .fast) (c .before .before .before .before .if1 .left), ne-eqb _ _ (c .before .before .before .if2 .left), le-leb _ _ (c .before .before .if3 .left), le-leb _ _ (c .before .if4 .left), ne-eqb _ _ (c .if5 .taken)), omega arith)
 
 add-result : tie.Need-add-result
 add-result c = search needs
@@ -20,9 +35,20 @@ mul-result c = search needs
 add-result-2 : tie.Need-add-result-2
 add-result-2 c = search needs
 
-returns-3 : tie.Need-returns-3
-returns-3 c = capped-short (c .before .before .before .args .f .mss) (c .before .before .before .args .f .fast) (c .before .before .before .args .cookie .now) (c .before .if1 .left) (c .if2 .left)
+returns-6 : tie.Need-returns-6
+unfolding cookieSize
+returns-6 c = (simp (not-false (c .before .before .before .before .before .args .fast) (c .before .before .before .before .if1 .left), ne-eqb _ _ (c .before .before .before .if2 .left), le-leb _ _ (c .before .before .if3 .left), le-leb _ _ (c .before .if4 .left), eq-eqb _ _ (c .if5 .left)), omega arith)
 
 pub option-length-spec : {M : Type 1} → statement M
 option-length-spec =
-    tie.close (tie.spec returns returns-2 add-result mul-result add-result-2 returns-3)
+    tie.close
+    (tie.spec
+    returns
+    returns-2
+    returns-3
+    returns-4
+    returns-5
+    add-result
+    mul-result
+    add-result-2
+    returns-6)

@@ -1,7 +1,7 @@
 -- `segment::write::put_header` meets its contract.
 -- Assumes nothing.
 use Rattle.segment.proofs.Family.{family, pseudo-even}
-use Rattle.segment.proofs.Writes.{headed}
+use Rattle.segment.proofs.Writes.{header-written}
 use borrow.Author.Needs.{needs}
 use Rattle.segment.proofs.write.put_header.Statement.{statement}
 use Rattle.segment.proofs.write.put_header.Tie as tie
@@ -49,7 +49,7 @@ returns : tie.Need-returns
 returns c =
     let s = c .before .before .before .before .before .before .before .before .before .before .before .before .before .before .before .before in
     let a = s .args in
-    headed (a .f) (a .words) _ _ _ _ _ _ _ (a .out .now) _
+    header-written (a .f) (a .offset) _ _ _ _ _ _ _ (a .out .now) _
     (pseudo-even (a .src .now) (a .dst .now) (a .n) (family _ _ (s .pre .0)))
     (c .before .before .before .before .before .before .before .before .before .before .before .before .header .ensures) (c .before .before .before .before .before .before .before .before .before .before .before .pseudo-sum .ensures) (c .before .before .before .before .before .before .before .before .before .add-bytes .ensures) (c .before .before .before .before .before .before .add-bytes2 .ensures) (c .before .before .before .before .before .header2 .ensures) (c .before .before .copy .ensures .1)
 

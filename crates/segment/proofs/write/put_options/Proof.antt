@@ -3,12 +3,11 @@
 use borrow.Author.Needs.{needs}
 use Rattle.segment.proofs.Writes.{more, padded-out, options-least, room-for-cookie, room-for-padding, wrote-plain, wrote-fast, overwrote}
 use native.Mathlib.Omega.{arith}
-use mathlib.Core.Path.{_≡_, refl, ap, sym, _∙_}
-use mathlib.Core.List.{List, [], _∷_, _++_, append-nil}
-use lib.ListN.{length, replicate, drop}
-use Prim.Native.Nat.{ℕ, _+_}
-use borrow.Author.Tests.{not-true, not-false}
-use Rattle.segment.specs.Write.{padding, mssBytes, fastOpenBytes, optionBytes}
+use mathlib.Core.Path.{refl}
+use mathlib.Core.List.{[], _∷_, _++_}
+use lib.ListN.{length}
+use Prim.Native.Nat.{_+_}
+use Rattle.segment.specs.Write.{mssBytes, fastOpenBytes, optionBytes}
 use Rattle.segment.proofs.write.put_options.Statement.{statement}
 use Rattle.segment.proofs.write.put_options.Tie as tie
 

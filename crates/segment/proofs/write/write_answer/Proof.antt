@@ -1,6 +1,5 @@
 -- `segment::write::write_answer` meets its contract.
 -- Assumes nothing.
-use mathlib.Core.Path.{ap}
 use Rattle.segment.specs.Write.{answerBytes}
 use borrow.Author.Needs.{needs}
 use Rattle.segment.proofs.write.write_answer.Statement.{statement}
@@ -8,6 +7,9 @@ use Rattle.segment.proofs.write.write_answer.Tie as tie
 
 next-after-requires : tie.Need-next-after-requires
 next-after-requires c κs = search needs
+
+add-t9 : tie.Need-add-t9
+add-t9 c = search needs
 
 slice-aggregate-write-segment : tie.Need-slice-aggregate-write-segment
 slice-aggregate-write-segment c = search needs
@@ -30,6 +32,7 @@ write-answer-spec =
     tie.close
     (tie.spec
     next-after-requires
+    add-t9
     slice-aggregate-write-segment
     slice-aggregate-write-segment-2
     write-segment-requires
