@@ -55,13 +55,13 @@ unfolding pseudoHeader
 pseudo-bytes src dst n bs bd = bytes-append src _ bs (bytes-append dst _ bd (tail-bytes (eqb (length src) 4) n))
 
 -- its sum, part by part
-pub pseudo-parts : (src dst : List ℕ) (n : ℕ) → Family src dst →
-    onesSum (onesSum (onesSum 0 src) dst) (pseudoTail (eqb (length src) 4) n) ≡ onesSum 0 (pseudoHeader src dst n)
+pub pseudo-parts : (src dst : List ℕ) (n : ℕ) (ipv4 : Bool) (s₁ s₂ s₃ : ℕ) → Family src dst → eqb (length src) 4 ≡ ipv4
+    → s₁ ≡ onesSum 0 src → s₂ ≡ onesSum s₁ dst → s₃ ≡ onesSum s₂ (pseudoTail ipv4 n) → s₃ ≡ onesSum 0 (pseudoHeader src dst n)
 unfolding pseudoHeader
-pseudo-parts src dst n f =
-    let t = pseudoTail (eqb (length src) 4) n in
+pseudo-parts src dst n ipv4 s₁ s₂ s₃ f k e₁ e₂ e₃ =
+    let t = pseudoTail ipv4 n in
     let e : length dst % 2 ≡ 0 = omega arith in
-    sym (sum-append 0 src (dst ++ t) (f .even) ∙ sum-append (onesSum 0 src) dst t e)
+    e₃ ∙ rw (e₂, e₁, k) (sym (sum-append 0 src (dst ++ t) (f .even) ∙ sum-append (onesSum 0 src) dst t e))
 
 -- the sum that a segment is checked by, from the pseudo-header's
 pub segment-parts : (src dst seg : List ℕ) → Family src dst →

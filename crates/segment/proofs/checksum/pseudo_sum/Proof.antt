@@ -1,6 +1,6 @@
 -- `segment::checksum::pseudo_sum` meets its contract.
 -- Assumes nothing.
-use mathlib.Core.Path.{_∙_}
+use mathlib.Core.Bool.{true, false}
 use borrow.Author.Needs.{needs}
 use borrow.Author.Tests.{eq-eqb, ne-eqb}
 use Rattle.segment.proofs.Family.{family, pseudo-parts}
@@ -28,9 +28,7 @@ add-bytes-requires-3 c κs = search needs
 returns : tie.Need-returns
 returns c =
     let s = c .before .before .before .before .before .before .before in
-    let p = pseudo-parts (s .args .src .now) (s .args .dst .now) (s .args .len) (family _ _ (s .pre)) in
-    let q = rw (eq-eqb _ _ (c .before .before .if1 .taken)) at p in
-    rw (c .before .before .before .add-bytes2 .ensures, c .before .before .before .before .add-bytes .ensures) at (c .add-bytes3 .ensures) ∙ q
+    pseudo-parts (s .args .src .now) (s .args .dst .now) (s .args .len) true _ _ _ (family _ _ (s .pre)) (eq-eqb _ _ (c .before .before .if1 .taken)) (c .before .before .before .before .add-bytes .ensures) (c .before .before .before .add-bytes2 .ensures) (c .add-bytes3 .ensures)
 
 cast-t18 : tie.Need-cast-t18
 cast-t18 c = search needs
@@ -53,9 +51,7 @@ add-bytes-requires-4 c κs = search needs
 returns-2 : tie.Need-returns-2
 returns-2 c =
     let s = c .before .before .before .before .before .before .before in
-    let p = pseudo-parts (s .args .src .now) (s .args .dst .now) (s .args .len) (family _ _ (s .pre)) in
-    let q = rw (ne-eqb _ _ (c .before .before .if1 .left)) at p in
-    rw (c .before .before .before .add-bytes2 .ensures, c .before .before .before .before .add-bytes .ensures) at (c .add-bytes4 .ensures) ∙ q
+    pseudo-parts (s .args .src .now) (s .args .dst .now) (s .args .len) false _ _ _ (family _ _ (s .pre)) (ne-eqb _ _ (c .before .before .if1 .left)) (c .before .before .before .before .add-bytes .ensures) (c .before .before .before .add-bytes2 .ensures) (c .add-bytes4 .ensures)
 
 pub pseudo-sum-spec : {M : Type 1} → statement M
 pseudo-sum-spec =

@@ -1,16 +1,21 @@
 -- `segment::options::with_option` meets its contract.
 -- Assumes nothing.
 use borrow.Author.Needs.{needs}
-use mathlib.Core.Path.{ap, ap₂, _∙_}
+use Prim.Native.Nat.{ℕ}
+use mathlib.Core.Path.{_≡_}
+use mathlib.Core.List.{List}
 use Rattle.segment.specs.declared.options.Options.{Options}
 use Rattle.segment.specs.declared.options.Mss.{Mss}
 use Rattle.segment.specs.declared.options.FastOpen.{FastOpen}
-use Rattle.segment.specs.Options.{firstMss, firstFastOpen, withOption}
+use Rattle.segment.specs.Options.{mssOption, fastOpenOption, firstMss, firstFastOpen, withOption}
 use Rattle.segment.proofs.options.with_option.Statement.{statement}
 use Rattle.segment.proofs.options.with_option.Tie as tie
 
-abbrev made : Mss → FastOpen → Options
-made m f = record { mss = m; fast = f }
+-- the two fields, each from the calls that made it
+both : (found : Options) (area : List ℕ) (i len : ℕ) (m₁ m : Mss) (f₁ f : FastOpen) → m₁ ≡ mssOption area i len → m ≡ firstMss (found .mss) m₁
+    → f₁ ≡ fastOpenOption area i len → f ≡ firstFastOpen (found .fast) f₁ → record { mss = m; fast = f } ≡ withOption found area i len
+unfolding withOption
+both found area i len m₁ m f₁ f p q r s = cc
 
 mss-option-requires : tie.Need-mss-option-requires
 mss-option-requires c κs = search needs
@@ -25,12 +30,9 @@ first-fast-open-requires : tie.Need-first-fast-open-requires
 first-fast-open-requires c κs = search needs
 
 returns : tie.Need-returns
-unfolding withOption
 returns c =
     let a = c .before .before .before .before .before .args in
-    let m = c .before .before .first-mss .ensures ∙ ap (firstMss (a .found .mss)) (c .before .before .before .mss-option .ensures) in
-    let f = c .first-fast-open .ensures ∙ ap (firstFastOpen (a .found .fast)) (c .before .fast-open-option .ensures) in
-    ap₂ made m f
+    both (a .found) (a .area .now) (a .i) (a .len) _ _ _ _ (c .before .before .before .mss-option .ensures) (c .before .before .first-mss .ensures) (c .before .fast-open-option .ensures) (c .first-fast-open .ensures)
 
 pub with-option-spec : {M : Type 1} → statement M
 with-option-spec =
