@@ -10,9 +10,9 @@ use lib.Dec.{eqb}
 use borrow.Author.Tests.{le-leb, le-ltb, ne-eqb}
 use Rattle.segment.specs.Bytes.{byteAt, be16, be32, word, long}
 use Rattle.segment.specs.Header.{SYN, has, malformed, offsetOf, headerLength, fieldsOf, shapeOf, optionArea, payloadOf}
-use Rattle.segment.specs.Options.{nothing, mssOption, fastOpenOption, withOption, readFrom, readOptions, optionsOf, cookieBytes}
+use Rattle.segment.specs.Options.{nothing, mssOption, cookieAt, fastOpenOption, withOption, readFrom, readOptions, optionsOf, cookieBytes}
 use Rattle.segment.specs.Checksum.{onesSum, complement, pseudoHeader, segmentSum, checksumRight}
-use Rattle.segment.specs.Write.{padding, mssBytes, fastOpenBytes, optionBytes, headerBytes, segmentWith, segmentBytes, cookieSize, optionsFor, lengthFor, canWrite, written}
+use Rattle.segment.specs.Write.{padding, mssBytes, fastOpenBytes, optionBytes, headerBytes, segmentWith, segmentBytes, isOptionCookie, optionsFor, lengthFor, canWrite, written}
 use Rattle.segment.specs.declared.header.Header.{Header}
 use Rattle.segment.specs.declared.header.Shape.the-variants.{WellFormed}
 use Rattle.segment.specs.declared.options.Mss.the-variants.{Given}
@@ -24,7 +24,7 @@ use Rattle.segment.proofs.Reading.{readAt, one-step}
 use Rattle.segment.proofs.Folding.{Bytes, bytes-append, sum-with-complement}
 use Rattle.segment.proofs.Family.{family, pseudo-even, pseudo-bytes}
 use Rattle.segment.proofs.Writes.{options-plain, options-fast}
-use Rattle.segment.proofs.Written.{Writable, writable, cookie-sized, options-most, with-length}
+use Rattle.segment.proofs.Written.{Writable, writable, option-cookie, options-most, with-length}
 
 -- A number written and read is the number, if it fits its bytes.
 pub back16 : (x : ℕ) → x < 65536 → word (x / 256 % 256) (x % 256) ≡ x
@@ -80,19 +80,17 @@ with-fast-open mss cookie h =
     e₁ ∙ e₂ ∙ e₃ ∙ rw (back16 mss h)
 
 -- there it counts, if an option may have such a cookie
-counted : (mss : ℕ) (cookie : List ℕ) → cookieSize (length cookie) ≡ true → fastOpenOption (optionBytes mss true cookie) 4 (length cookie + 2) ≡ fastOpenFor true cookie
-unfolding fastOpenOption optionBytes
+counted : (mss : ℕ) (cookie : List ℕ) → isOptionCookie (length cookie) ≡ true → fastOpenOption (optionBytes mss true cookie) 4 (length cookie + 2) ≡ fastOpenFor true cookie
+unfolding fastOpenOption cookieAt optionBytes
 counted mss [] e = refl
 counted mss (b ∷ rest) e =
     let n = suc (length rest) in
-    let s = cookie-sized (length rest) e in
-    let t : eqb (n + 2) 2 ≡ false = ne-eqb (n + 2) 2 (λ q. omega arith) in
-    let v : (n + 2) % 2 ≡ 0 = omega arith in
     let m : n + 2 - 2 ≡ n = omega arith in
-    rw (t, le-leb 6 (n + 2) (omega arith), le-leb (n + 2) 18 (omega arith), v, m)
+    let z : eqb n 0 ≡ false = ne-eqb n 0 (λ q. omega arith) in
+    rw (m, z, option-cookie (length rest) e)
 
 -- the law: the reader finds in a written option area just what was put there
-pub options-back : (mss : ℕ) (fast : Bool) (cookie : List ℕ) → mss < 65536 → not fast || cookieSize (length cookie) ≡ true
+pub options-back : (mss : ℕ) (fast : Bool) (cookie : List ℕ) → mss < 65536 → not fast || isOptionCookie (length cookie) ≡ true
     → readOptions (optionBytes mss fast cookie) ≡ foundFor mss fast cookie
 options-back mss false cookie h e = without-fast-open mss cookie h
 options-back mss true cookie h e = with-fast-open mss cookie h ∙ ap (λ (f : FastOpen). record { mss = Given mss; fast = f }) (counted mss cookie e)
@@ -132,10 +130,10 @@ flags-back : (f : Outgoing) (check : ℕ) (options payload : List ℕ) → byteA
 unfolding segmentWith headerBytes
 flags-back f check options payload = refl
 
--- the options end at a multiple of four bytes
-options-even : (mss : ℕ) (fast : Bool) (cookie : List ℕ) → length (optionBytes mss fast cookie) % 4 ≡ 0
-options-even mss false cookie = ap (λ (x : ℕ). x % 4) (options-plain mss cookie)
-options-even mss true cookie = omega (arith, options-fast mss cookie)
+-- the options end at a multiple of four bytes, a 32-bit word
+options-words : (mss : ℕ) (fast : Bool) (cookie : List ℕ) → length (optionBytes mss fast cookie) % 4 ≡ 0
+options-words mss false cookie = ap (λ (x : ℕ). x % 4) (options-plain mss cookie)
+options-words mss true cookie = omega (arith, options-fast mss cookie)
 
 -- the options are bytes
 ones-bytes : (n : ℕ) → Bytes (replicate n 1)
@@ -155,7 +153,7 @@ pub record ReadBack (src dst : List ℕ) (f : Outgoing) (cookie payload seg : Li
   pub shape : shapeOf seg ≡ WellFormed (headerOf f (length (optionsFor f cookie)))
   pub flags : byteAt seg 13 ≡ f .flags
   pub area : optionArea seg ≡ optionsFor f cookie
-  pub rest : payloadOf seg ≡ payload
+  pub content : payloadOf seg ≡ payload
   pub right : checksumRight src dst seg ≡ true
   pub size : length seg ≡ lengthFor f cookie payload
 
@@ -172,7 +170,7 @@ module _ (src dst : List ℕ) (f : Outgoing) (cookie payload : List ℕ) (room :
       (le-ltb (length s) (headerLength s) (omega arith))
 
   header-length : (check : ℕ) → headerLength (segmentWith f check (optionsFor f cookie) payload) ≡ 20 + length (optionsFor f cookie)
-  header-length check = omega (arith, offset-back f check (optionsFor f cookie) payload, options-even (f .mss) (f .fast) cookie)
+  header-length check = omega (arith, offset-back f check (optionsFor f cookie) payload, options-words (f .mss) (f .fast) cookie)
 
   area-back : (check : ℕ) → optionArea (segmentWith f check (optionsFor f cookie) payload) ≡ optionsFor f cookie
   unfolding optionArea segmentWith headerBytes
@@ -236,14 +234,14 @@ read-back src dst f cookie payload room can h bs bd bc bp =
       shape = rw (well-formed src dst f cookie payload room w check, fields-back f check o payload h);
       flags = flags-back f check o payload;
       area = area-back src dst f cookie payload room w check;
-      rest = payload-back src dst f cookie payload room w check;
+      content = payload-back src dst f cookie payload room w check;
       right = rw (w .one, sum-full src dst f cookie payload room w bs bd bc bp (h .flags));
       size = with-length f check o payload;
     })
 
 -- its options count as they were put there, if it has the SYN flag
 pub options-counted : (src dst : List ℕ) (f : Outgoing) (cookie payload seg : List ℕ) → ReadBack src dst f cookie payload seg
-    → f .mss < 65536 → not (f .fast) || cookieSize (length cookie) ≡ true → has (f .flags) SYN ≡ true → optionsOf seg ≡ foundFor (f .mss) (f .fast) cookie
+    → f .mss < 65536 → not (f .fast) || isOptionCookie (length cookie) ≡ true → has (f .flags) SYN ≡ true → optionsOf seg ≡ foundFor (f .mss) (f .fast) cookie
 unfolding optionsOf
 options-counted src dst f cookie payload seg b h s e = rw (b .flags, e, b .area) (options-back (f .mss) (f .fast) cookie h s)
 

@@ -7,21 +7,25 @@ use native.Mathlib.Omega.{arith}
 use lib.ListN.{length, drop, length-drop}
 use lib.Seq.{length-take-le}
 use lib.Dec.{eqb, leb}
-use borrow.Author.Tests.{leb-true, eqb-true}
+use borrow.Author.Tests.{leb-true, eqb-true, le-leb, eq-eqb}
 use Rattle.segment.specs.Bytes.{byteAt}
 use Rattle.segment.specs.Header.{has, SYN, optionArea}
 use Rattle.segment.specs.declared.options.FastOpen.{FastOpen}
 use Rattle.segment.specs.declared.options.FastOpen.the-variants.{Absent, Request, Cookie}
 use Rattle.segment.specs.declared.options.Options.{Options}
-use Rattle.segment.specs.Options.{cookieLength, fastOpenOption, firstFastOpen, withOption, readFrom, readOptions, ifSyn, optionsOf, cookieBytes}
+use Rattle.segment.specs.Options.{isCookieLength, cookieAt, fastOpenOption, firstFastOpen, withOption, readFrom, readOptions, ifSyn, optionsOf, cookieBytes}
 use Rattle.segment.proofs.Family.{and-true}
+
+-- 4 to 16 bytes, an even number
+pub record CookieLength (n : ℕ) : Type 0 where
+  pub least : 4 ≤ n
+  pub most : n ≤ 16
+  pub even : n % 2 ≡ 0
 
 -- a cookie at a place of an area of n bytes
 pub record Inside (n at len : ℕ) : Type 0 where
   pub fits : at + len ≤ n
-  pub least : 4 ≤ len
-  pub most : len ≤ 16
-  pub even : len % 2 ≡ 0
+  pub size : CookieLength len
 
 abbrev pub AllInside : ℕ → FastOpen → Type 0
 AllInside n Absent = Unit {0}
@@ -38,22 +42,24 @@ first-inside n Absent g p q = q
 first-inside n Request g p q = tt
 first-inside n (Cookie at len) g p q = p
 
-option-inside : (n : ℕ) (area : List ℕ) (i len : ℕ) → i + len ≤ n → AllInside n (fastOpenOption area i len)
-unfolding fastOpenOption
-option-inside n area i len h =
+pub cookie-length : (n : ℕ) → isCookieLength n ≡ true → CookieLength n
+unfolding isCookieLength
+cookie-length n e =
+    let a = and-true (leb 4 n) _ e in
+    let b = and-true (leb n 16) (eqb (n % 2) 0) (a .1) in
+    record { least = leb-true 4 n (a .0); most = leb-true n 16 (b .0); even = eqb-true (n % 2) 0 (b .1) }
+
+pub length-cookie : (n : ℕ) → CookieLength n → isCookieLength n ≡ true
+unfolding isCookieLength
+length-cookie n c = rw (le-leb 4 n (c .least), le-leb n 16 (c .most), eq-eqb (n % 2) 0 (c .even))
+
+option-inside : (n : ℕ) (area : List ℕ) (i len : ℕ) → i + len ≤ n → 2 ≤ len → AllInside n (fastOpenOption area i len)
+unfolding fastOpenOption cookieAt
+option-inside n area i len h k =
     chosen (AllInside n) (eqb (byteAt area i) 34) _ _
-    (λ _. chosen (AllInside n) (eqb len 2) _ _ (λ _. tt)
-    (λ _. chosen (AllInside n) (cookieLength len) _ _ sized (λ _. tt)))
+    (λ _. chosen (AllInside n) (eqb (len - 2) 0) _ _ (λ _. tt)
+    (λ _. chosen (AllInside n) (isCookieLength (len - 2)) _ _ (λ e. record { fits = omega arith; size = cookie-length (len - 2) e }) (λ _. tt)))
     (λ _. tt)
-  where
-    sized : cookieLength len ≡ true → Inside n (i + 2) (len - 2)
-    sized e =
-        let a = and-true (leb 6 len) _ e in
-        let b = and-true (leb len 18) _ (a .1) in
-        let l = leb-true 6 len (a .0) in
-        let m = leb-true len 18 (b .0) in
-        let v = eqb-true (len % 2) 0 (b .1) in
-        record { fits = omega arith; least = omega arith; most = omega arith; even = omega arith }
 
 from-inside : (area : List ℕ) (i skip : ℕ) (rest : List ℕ) (found : Options) → i + length rest ≤ length area
     → AllInside (length area) (found .fast) → AllInside (length area) (readFrom area i skip rest found .fast)
@@ -67,9 +73,11 @@ from-inside area i zero (kind ∷ rest) found h p =
     (λ _. chosen Q (eqb kind 1) _ _ (λ _. from-inside area (i + 1) 0 rest found (omega arith) p)
     (λ _. chosen Q (leb 2 len && leb len (length rest + 1)) _ _
     (λ e.
-    let b = leb-true len (length rest + 1) (and-true (leb 2 len) _ e .1) in
+    let t = and-true (leb 2 len) _ e in
+    let a = leb-true 2 len (t .0) in
+    let b = leb-true len (length rest + 1) (t .1) in
     from-inside area (i + 1) (len - 1) rest (withOption found area i len) (omega arith)
-    (first-inside (length area) (found .fast) _ p (option-inside (length area) area i len (omega arith))))
+    (first-inside (length area) (found .fast) _ p (option-inside (length area) area i len (omega arith) a)))
     (λ _. p)))
 
 pub inside : (area : List ℕ) → AllInside (length area) (readOptions area .fast)

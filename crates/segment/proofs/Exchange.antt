@@ -5,36 +5,47 @@ use mathlib.Core.Bool.{Bool, true, false, not, _||_}
 use mathlib.Core.List.{List, []}
 use native.Mathlib.Omega.{arith}
 use lib.ListN.{length}
-use borrow.Author.Tests.{le-leb}
+use borrow.Author.Tests.{le-leb, ne-eqb}
 use Rattle.segment.specs.Bytes.{byteAt}
 use Rattle.segment.specs.Header.{has, kindOf, synAck, shapeOf, optionArea, payloadOf}
-use Rattle.segment.specs.Options.{optionsOf, cookieBytes}
+use Rattle.segment.specs.Options.{isCookieLength, optionsOf, cookieBytes}
 use Rattle.segment.specs.Checksum.{oneFamily, checksumRight}
 use Rattle.segment.specs.Sequence.{nextAfter, difference, acknowledged}
-use Rattle.segment.specs.Write.{cookieSize, optionBytes, optionsFor, lengthFor, canWrite, written, answerFields, answerBytes, openingFields, openingBytes}
+use Rattle.segment.specs.Write.{isOptionCookie, optionBytes, optionsFor, lengthFor, canWrite, written, answerFields, answerBytes, openingFields, openingBytes}
 use Rattle.segment.specs.declared.header.Kind.the-variants.{Syn}
 use Rattle.segment.specs.declared.header.Shape.the-variants.{WellFormed}
 use Rattle.segment.specs.declared.write.Answer.{Answer}
 use Rattle.segment.specs.declared.write.Opening.{Opening}
 use Rattle.segment.specs.declared.write.Outgoing.{Outgoing}
 use Rattle.segment.proofs.Folding.{Bytes}
+use Rattle.segment.proofs.Cookie.{Inside, length-cookie}
 use Rattle.segment.proofs.Writes.{options-plain, options-fast}
-use Rattle.segment.proofs.Written.{writable, options-most}
+use Rattle.segment.proofs.Written.{writable, options-most, segment-length}
 use Rattle.segment.proofs.Agreement.{Fits, headerOf, foundFor, read-back, options-counted, cookie-counted}
 
 -- Where there is room
 
 can-write : (src dst : List ℕ) (f : Outgoing) (cookie payload : List ℕ) (room : ℕ) → oneFamily src dst ≡ true
-    → not (f .fast) || cookieSize (length cookie) ≡ true → lengthFor f cookie payload ≤ 1520 → lengthFor f cookie payload ≤ room
+    → not (f .fast) || isOptionCookie (length cookie) ≡ true → lengthFor f cookie payload ≤ 1520 → lengthFor f cookie payload ≤ room
     → canWrite src dst f cookie payload room ≡ true
 unfolding canWrite
 can-write src dst f cookie payload room e s h r = rw (e, s, le-leb (lengthFor f cookie payload) 1520 h, le-leb (lengthFor f cookie payload) room r)
 
--- an option may have a cookie of eight bytes
-eight : (fast : Bool) (n : ℕ) → n ≡ 8 → not fast || cookieSize n ≡ true
-unfolding cookieSize
-eight false n e = refl
-eight true n e = rw e
+-- an option may have no cookie, one that was found in an area, and one of eight bytes
+pub option-empty : isOptionCookie 0 ≡ true
+unfolding isOptionCookie
+option-empty = refl
+
+pub option-found : (n at len : ℕ) → Inside n at len → isOptionCookie len ≡ true
+unfolding isOptionCookie
+option-found n at len h =
+    let c = h .size in
+    rw (ne-eqb len 0 (λ e. omega arith), length-cookie len (h .size))
+
+pub option-eight : (fast : Bool) (n : ℕ) → n ≡ 8 → not fast || isOptionCookie n ≡ true
+unfolding isOptionCookie isCookieLength
+option-eight false n e = refl
+option-eight true n e = rw e
 
 -- an answer has 24 bytes without a cookie and 36 with a fresh one
 abbrev pub answerLength : Bool → ℕ
@@ -56,7 +67,7 @@ answer-can src dst a cookie room e l r = go (a .fresh) refl
     go : (b : Bool) → a .fresh ≡ b → canWrite src dst (answerFields a) cookie [] room ≡ true
     go b q =
         let n = answer-length a cookie l ∙ ap answerLength q in
-        can-write src dst (answerFields a) cookie [] room e (eight (a .fresh) (length cookie) l) (most b n) (least b n)
+        can-write src dst (answerFields a) cookie [] room e (option-eight (a .fresh) (length cookie) l) (most b n) (least b n)
       where
         most : (b : Bool) → lengthFor (answerFields a) cookie [] ≡ answerLength b → lengthFor (answerFields a) cookie [] ≤ 1520
         most false n = omega arith
@@ -66,9 +77,16 @@ answer-can src dst a cookie room e l r = go (a .fresh) refl
         least false n = omega arith
         least true n = omega arith
 
--- and 1,504 for any opening with a payload of up to 1,460 bytes
+-- and it has 24 or 36 of them
+pub answer-bytes : (src dst : List ℕ) (a : Answer) (cookie : List ℕ) (room : ℕ) → oneFamily src dst ≡ true → length cookie ≡ 8 → 36 ≤ room
+    → length (answerBytes src dst a cookie room) ≡ answerLength (a .fresh)
+unfolding answerBytes written
+answer-bytes src dst a cookie room e l r =
+    rw (answer-can src dst a cookie room e l r) (segment-length src dst (answerFields a) (optionsFor (answerFields a) cookie) [] ∙ answer-length a cookie l)
+
+-- 1,504 are enough for any opening with a payload of up to 1,460 bytes
 pub opening-can : (src dst : List ℕ) (o : Opening) (cookie payload : List ℕ) (room : ℕ) → oneFamily src dst ≡ true
-    → not (o .fast) || cookieSize (length cookie) ≡ true → length payload ≤ 1460 → 1504 ≤ room
+    → not (o .fast) || isOptionCookie (length cookie) ≡ true → length payload ≤ 1460 → 1504 ≤ room
     → canWrite src dst (openingFields o) cookie payload room ≡ true
 opening-can src dst o cookie payload room e s p r =
     let m = options-most (o .mss) (o .fast) cookie s in
@@ -94,27 +112,27 @@ pub record AnswerRead (src dst : List ℕ) (a : Answer) (cookie seg : List ℕ) 
   pub options : optionsOf seg ≡ foundFor (a .mss) (a .fresh) cookie
   pub bytes : a .fresh ≡ true → cookieBytes (optionsOf seg .fast) (optionArea seg) ≡ cookie
   pub area : optionArea seg ≡ optionBytes (a .mss) (a .fresh) cookie
-  pub rest : payloadOf seg ≡ []
+  pub content : payloadOf seg ≡ []
   pub right : checksumRight src dst seg ≡ true
   pub size : length seg ≡ answerLength (a .fresh)
 
-pub answer-read : (src dst : List ℕ) (a : Answer) (cookie : List ℕ) (room : ℕ) → oneFamily src dst ≡ true → length cookie ≡ 8
+pub answer-read : (src dst : List ℕ) (a : Answer) (cookie : List ℕ) (room : ℕ) → length cookie ≡ 8
     → canWrite src dst (answerFields a) cookie [] room ≡ true
     → AnswerFits a → Bytes src → Bytes dst → Bytes cookie → AnswerRead src dst a cookie (answerBytes src dst a cookie room)
 unfolding answerBytes synAck has
-answer-read src dst a cookie room f l can h bs bd bc =
+answer-read src dst a cookie room l can h bs bd bc =
     let g = answerFields a in
     let fits : Fits g = record { source = h .source; dest = h .dest; seq = h .iss; ack = next-fits (a .irs) (a .accepted); flags = omega arith; mss = h .mss } in
     let b = read-back src dst g cookie [] room can fits bs bd bc tt in
     let seg = written src dst g cookie [] room in
-    let o = options-counted src dst g cookie [] seg b (h .mss) (eight (a .fresh) (length cookie) l) refl in
+    let o = options-counted src dst g cookie [] seg b (h .mss) (option-eight (a .fresh) (length cookie) l) refl in
     record {
       shape = b .shape;
       kind = rw (b .flags);
       options = o;
       bytes = cookie-counted src dst g cookie [] seg b o;
       area = b .area;
-      rest = b .rest;
+      content = b .content;
       right = b .right;
       size = b .size ∙ answer-length a cookie l;
     }
@@ -133,7 +151,7 @@ pub record OpeningRead (src dst : List ℕ) (o : Opening) (cookie payload seg : 
   pub options : optionsOf seg ≡ foundFor (o .mss) (o .fast) cookie
   pub bytes : o .fast ≡ true → cookieBytes (optionsOf seg .fast) (optionArea seg) ≡ cookie
   pub area : optionArea seg ≡ optionBytes (o .mss) (o .fast) cookie
-  pub rest : payloadOf seg ≡ payload
+  pub content : payloadOf seg ≡ payload
   pub right : checksumRight src dst seg ≡ true
   pub size : length seg ≡ lengthFor (openingFields o) cookie payload
 
@@ -152,7 +170,7 @@ opening-read src dst o cookie payload room can h bs bd bc bp =
       options = c;
       bytes = cookie-counted src dst g cookie payload seg b c;
       area = b .area;
-      rest = b .rest;
+      content = b .content;
       right = b .right;
       size = b .size;
     }

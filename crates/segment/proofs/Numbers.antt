@@ -1,7 +1,7 @@
 -- The refusals' numbers and their order. Assumes nothing.
 use Prim.Native.Nat.{ℕ, _-_}
-use mathlib.Core.Path.{_≡_, refl, ap, sym, _∙_}
-use mathlib.Core.Bool.{true, false}
+use mathlib.Core.Path.{_≡_, refl, ap, sym, _∙_, subst}
+use mathlib.Core.Bool.{Bool, true, false, cond}
 use mathlib.Core.List.{List, [], _∷_, _++_, map}
 use native.Mathlib.Omega.{arith}
 use lib.ListN.{getD}
@@ -54,6 +54,25 @@ pub first-applies : (before : List Refusal) (r : Refusal) (after : List Refusal)
     → firstOf (before ++ (r ∷ after)) cs ≡ Refused r
 first-applies [] r after cs n e = rw e
 first-applies (b ∷ before) r after cs n e = rw (n .0) (first-applies before r after cs (n .1) e)
+
+-- and so the other way round: of a call that is clear none applies, and the one that it is refused for does
+pub none-applies : (rs : List Refusal) (cs : Checks) → firstOf rs cs ≡ Clear → None rs cs
+none-applies [] cs e = tt
+none-applies (r ∷ rs) cs e = go (none-applies rs cs) (applies cs r) refl e
+  where
+    go : (firstOf rs cs ≡ Clear → None rs cs) → (b : Bool) → applies cs r ≡ b → cond b (Refused r) (firstOf rs cs) ≡ Clear → None (r ∷ rs) cs
+    go more true q k = absurd (let z : _≡_ {A = ℕ} 0 1 = cc in omega arith)
+    go more false q k = (q, more k)
+
+pub refused-applies : (rs : List Refusal) (r : Refusal) (cs : Checks) → firstOf rs cs ≡ Refused r → applies cs r ≡ true
+refused-applies [] r cs e = absurd (let z : _≡_ {A = ℕ} 0 1 = cc in omega arith)
+refused-applies (x ∷ rs) r cs e = go (refused-applies rs r cs) (applies cs x) refl e
+  where
+    go : (firstOf rs cs ≡ Refused r → applies cs r ≡ true) → (b : Bool) → applies cs x ≡ b → cond b (Refused x) (firstOf rs cs) ≡ Refused r → applies cs r ≡ true
+    go more true q k =
+        let same : x ≡ r = cc in
+        subst (λ (y : Refusal). applies cs y ≡ true) same q
+    go more false q k = more k
 
 -- only a call that is done answers 0
 pub done-is-0 : (c : Check) → answered c ≡ 0 → c ≡ Clear

@@ -8,7 +8,7 @@ use borrow.Author.Tests.{le-leb}
 use lib.ListN.{length}
 use Rattle.segment.specs.Bytes.{word}
 use Rattle.segment.specs.Sequence.{nextAfter, difference, inWindow}
-use Rattle.segment.specs.Options.{nothing, mssOption, fastOpenOption, withOption, readFrom, readOptions, cookieBytes}
+use Rattle.segment.specs.Options.{nothing, mssOption, isCookieLength, cookieAt, fastOpenOption, withOption, readFrom, readOptions, cookieBytes}
 use Rattle.segment.specs.Checksum.{onesAdd, onesSum, pseudoHeader, segmentSum}
 use Rattle.segment.specs.Write.{optionBytes, headerBytes, segmentWith, segmentBytes, canWrite, written, answerBytes}
 use Rattle.segment.specs.declared.options.Mss.the-variants.{NotGiven, Given}
@@ -44,16 +44,16 @@ only f = record { mss = NotGiven; fast = f }
 
 -- 6: a request
 pub row6 : readOptions (34 ∷ 2 ∷ []) ≡ only Request
-unfolding readOptions readFrom withOption mssOption fastOpenOption
+unfolding readOptions readFrom withOption mssOption fastOpenOption cookieAt isCookieLength
 row6 = refl
 
 -- 7, 8: skipped. Nothing is found, and a request that follows is.
 pub row7 : (readOptions (34 ∷ 3 ∷ 0 ∷ []) ≡ nothing) × (readOptions (34 ∷ 3 ∷ 0 ∷ 34 ∷ 2 ∷ []) ≡ only Request)
-unfolding readOptions readFrom withOption mssOption fastOpenOption
+unfolding readOptions readFrom withOption mssOption fastOpenOption cookieAt isCookieLength
 row7 = (refl, refl)
 
 pub row8 : (readOptions (34 ∷ 4 ∷ 1 ∷ 2 ∷ []) ≡ nothing) × (readOptions (34 ∷ 4 ∷ 1 ∷ 2 ∷ 34 ∷ 2 ∷ []) ≡ only Request)
-unfolding readOptions readFrom withOption mssOption fastOpenOption
+unfolding readOptions readFrom withOption mssOption fastOpenOption cookieAt isCookieLength
 row8 = (refl, refl)
 
 -- an area in which just a cookie of these bytes is found, at byte 2
@@ -62,13 +62,13 @@ FoundCookie cookie area = (readOptions area ≡ only (Cookie 2 (length cookie)))
 
 -- 9, 10: the shortest cookie and the longest, whatever their bytes
 pub row9 : (a b c d : ℕ) → FoundCookie (a ∷ b ∷ c ∷ d ∷ []) (34 ∷ 6 ∷ a ∷ b ∷ c ∷ d ∷ [])
-unfolding readOptions readFrom withOption mssOption fastOpenOption
+unfolding readOptions readFrom withOption mssOption fastOpenOption cookieAt isCookieLength
 row9 a b c d = (refl, refl)
 
 pub row10 : (a b c d e f g h i j k l m n o p : ℕ)
     → FoundCookie (a ∷ b ∷ c ∷ d ∷ e ∷ f ∷ g ∷ h ∷ i ∷ j ∷ k ∷ l ∷ m ∷ n ∷ o ∷ p ∷ [])
     (34 ∷ 18 ∷ a ∷ b ∷ c ∷ d ∷ e ∷ f ∷ g ∷ h ∷ i ∷ j ∷ k ∷ l ∷ m ∷ n ∷ o ∷ p ∷ [])
-unfolding readOptions readFrom withOption mssOption fastOpenOption
+unfolding readOptions readFrom withOption mssOption fastOpenOption cookieAt isCookieLength
 row10 a b c d e f g h i j k l m n o p = (refl, refl)
 
 -- nothing but an MSS
@@ -81,7 +81,7 @@ EarlierStands bytes = (a b : ℕ) → readOptions (2 ∷ 4 ∷ a ∷ b ∷ bytes
 
 -- 11: reading ends, whatever follows, and what was found before stands
 pub row11 : (rest : List ℕ) → (readOptions (34 ∷ 0 ∷ rest) ≡ nothing) × EarlierStands (34 ∷ 0 ∷ rest)
-unfolding readOptions readFrom withOption mssOption fastOpenOption
+unfolding readOptions readFrom withOption mssOption fastOpenOption cookieAt isCookieLength
 row11 rest = (refl, earlier)
   where
     earlier : EarlierStands (34 ∷ 0 ∷ rest)
@@ -89,7 +89,7 @@ row11 rest = (refl, earlier)
 
 -- 12: reading ends at the last byte, and what was found before stands
 pub row12 : (readOptions (34 ∷ []) ≡ nothing) × EarlierStands (34 ∷ [])
-unfolding readOptions readFrom withOption mssOption fastOpenOption
+unfolding readOptions readFrom withOption mssOption fastOpenOption cookieAt isCookieLength
 row12 = (refl, λ a b. refl)
 
 -- 16: the answer's bytes, in any output that has room for them

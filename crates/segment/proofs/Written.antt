@@ -1,5 +1,5 @@
 -- A segment that is written, and one that is not. Assumes nothing.
-use Prim.Native.Nat.{ℕ, zero, suc, _+_, _-_, _/_, _%_, _≤_}
+use Prim.Native.Nat.{ℕ, zero, suc, _+_, _-_, _/_, _≤_}
 use mathlib.Core.Path.{_≡_, refl, ap, sym, _∙_}
 use mathlib.Core.Bool.{Bool, true, false, true≢false, cond, not, _&&_, _||_}
 use mathlib.Core.List.{List, _++_, append-assoc}
@@ -7,17 +7,19 @@ use native.Mathlib.Omega.{arith}
 use lib.ListN.{length, take, drop, length-append}
 use lib.Seq.{take-at, drop-at, length-take-le}
 use lib.Dec.{leb, eqb}
-use borrow.Author.Tests.{leb-true, eqb-true, ne-eqb}
+use borrow.Author.Tests.{leb-true, ne-eqb}
 use Rattle.segment.specs.declared.write.Outgoing.{Outgoing}
+use Rattle.segment.specs.Options.{isCookieLength}
 use Rattle.segment.specs.Checksum.{onesSum, complement, oneFamily, pseudoHeader, segmentSum}
-use Rattle.segment.specs.Write.{headerBytes, segmentWith, segmentBytes, cookieSize, optionBytes, optionsFor, lengthFor, optionLength, writableLength, canWrite, written, overwrite}
+use Rattle.segment.specs.Write.{headerBytes, segmentWith, segmentBytes, isOptionCookie, optionBytes, optionsFor, lengthFor, optionLength, writableLength, canWrite, written, overwrite}
 use Rattle.segment.proofs.Family.{and-true}
+use Rattle.segment.proofs.Cookie.{cookie-length}
 use Rattle.segment.proofs.Writes.{options-plain, options-fast, options-least}
 
 -- what `canWrite` tests
 pub record Writable (src dst : List ℕ) (f : Outgoing) (cookie payload : List ℕ) (room : ℕ) : Type 0 where
   pub one : oneFamily src dst ≡ true
-  pub sized : not (f .fast) || cookieSize (length cookie) ≡ true
+  pub sized : not (f .fast) || isOptionCookie (length cookie) ≡ true
   pub short : lengthFor f cookie payload ≤ 1520
   pub fits : lengthFor f cookie payload ≤ room
 
@@ -27,39 +29,32 @@ unfolding canWrite
 writable src dst f cookie payload room e =
     let n = lengthFor f cookie payload in
     let a = and-true (oneFamily src dst) _ e in
-    let b = and-true (not (f .fast) || cookieSize (length cookie)) _ (a .1) in
+    let b = and-true (not (f .fast) || isOptionCookie (length cookie)) _ (a .1) in
     let d = and-true (leb n 1520) (leb n room) (b .1) in
     record { one = a .0; sized = b .0; short = leb-true n 1520 (d .0); fits = leb-true n room (d .1) }
 
--- an option may have a cookie of so many bytes: none, or 4 to 16, an even number
-pub record Sized (n : ℕ) : Type 0 where
-  pub least : 4 ≤ n
-  pub most : n ≤ 16
-  pub even : n % 2 ≡ 0
-
-pub cookie-sized : (n : ℕ) → cookieSize (suc n) ≡ true → Sized (suc n)
-unfolding cookieSize
-cookie-sized n e =
+-- an option may have a cookie that has some bytes only if it is of a cookie's length
+pub option-cookie : (n : ℕ) → isOptionCookie (suc n) ≡ true → isCookieLength (suc n) ≡ true
+unfolding isOptionCookie
+option-cookie n e =
     let z : eqb (suc n) 0 ≡ false = ne-eqb (suc n) 0 (λ q. omega arith) in
-    let a = and-true (leb 4 (suc n)) (leb (suc n) 16 && eqb (suc n % 2) 0) (rw z at e) in
-    let b = and-true (leb (suc n) 16) (eqb (suc n % 2) 0) (a .1) in
-    record { least = leb-true 4 (suc n) (a .0); most = leb-true (suc n) 16 (b .0); even = eqb-true (suc n % 2) 0 (b .1) }
+    rw z at e
 
-pub cookie-most : (n : ℕ) → cookieSize n ≡ true → n ≤ 16
+cookie-most : (n : ℕ) → isOptionCookie n ≡ true → n ≤ 16
 cookie-most zero e = omega arith
-cookie-most (suc n) e = cookie-sized n e .most
+cookie-most (suc n) e = cookie-length (suc n) (option-cookie n e) .most
 
--- where a cookie may have its length, the code's length of the options is theirs
-option-length : (mss : ℕ) (fast : Bool) (cookie : List ℕ) → not fast || cookieSize (length cookie) ≡ true
+-- where an option may have its cookie, the code's length of the options is theirs
+option-length : (mss : ℕ) (fast : Bool) (cookie : List ℕ) → not fast || isOptionCookie (length cookie) ≡ true
     → optionLength fast (length cookie) ≡ length (optionBytes mss fast cookie)
 option-length mss false cookie e = sym (options-plain mss cookie)
 option-length mss true cookie e = rw e (omega (arith, options-fast mss cookie))
 
-no-option-length : (fast : Bool) (n : ℕ) → not fast || cookieSize n ≡ false → optionLength fast n ≡ 0
+no-option-length : (fast : Bool) (n : ℕ) → not fast || isOptionCookie n ≡ false → optionLength fast n ≡ 0
 no-option-length false n e = absurd (true≢false e)
 no-option-length true n e = rw e
 
-pub options-most : (mss : ℕ) (fast : Bool) (cookie : List ℕ) → not fast || cookieSize (length cookie) ≡ true → length (optionBytes mss fast cookie) ≤ 24
+pub options-most : (mss : ℕ) (fast : Bool) (cookie : List ℕ) → not fast || isOptionCookie (length cookie) ≡ true → length (optionBytes mss fast cookie) ≤ 24
 options-most mss false cookie e = omega (arith, options-plain mss cookie)
 options-most mss true cookie e = omega (arith, options-fast mss cookie, cookie-most (length cookie) e)
 
@@ -72,9 +67,9 @@ tested : (src dst : List ℕ) (f : Outgoing) (cookie payload : List ℕ) (room :
     → writableLength (oneFamily src dst) (optionLength (f .fast) (length cookie)) (length payload) room
     ≡ cond (canWrite src dst f cookie payload room) (lengthFor f cookie payload) 0
 unfolding writableLength canWrite
-tested src dst f cookie payload room = go (not (f .fast) || cookieSize (length cookie)) refl
+tested src dst f cookie payload room = go (not (f .fast) || isOptionCookie (length cookie)) refl
   where
-    go : (b : Bool) → not (f .fast) || cookieSize (length cookie) ≡ b
+    go : (b : Bool) → not (f .fast) || isOptionCookie (length cookie) ≡ b
         → writableLength (oneFamily src dst) (optionLength (f .fast) (length cookie)) (length payload) room
         ≡ cond (oneFamily src dst && (b && (leb (lengthFor f cookie payload) 1520 && leb (lengthFor f cookie payload) room))) (lengthFor f cookie payload) 0
     go true e =

@@ -29,7 +29,8 @@ oneFamily src dst = eqb (length src) (length dst) && (eqb (length src) 4 || eqb 
 abbrev pub protocol : ℕ
 protocol = 6
 
--- what follows the addresses in the pseudo-header: in IPv4 (RFC 9293, 3.1) zero, protocol and length; in IPv6 (RFC 8200, 8.1) length, three zeros and protocol
+-- what follows the addresses in the pseudo-header: in IPv4 (RFC 9293, 3.1) zero, protocol and length (its low 16 bits); in IPv6 (RFC 8200, 8.1) length,
+-- three zeros and protocol
 abbrev pub pseudoTail : Bool → ℕ → List ℕ
 pseudoTail ipv4 len = cond ipv4 (0 ∷ protocol ∷ be16 len) (be32 len ++ (0 ∷ 0 ∷ 0 ∷ protocol ∷ []))
 

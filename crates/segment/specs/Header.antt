@@ -27,7 +27,7 @@ headerLength s = 4 * offsetOf s
 unfoldable pub malformed : List ℕ → Bool
 malformed s = ltb (length s) 20 || (ltb 1520 (length s) || (ltb (offsetOf s) 5 || ltb (length s) (headerLength s)))
 
--- the fields of a header
+-- the fields of a header that are used
 unfoldable pub fieldsOf : List ℕ → Header
 fieldsOf s =
     record {

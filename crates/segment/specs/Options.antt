@@ -17,14 +17,17 @@ use Rattle.segment.specs.declared.options.Options.{Options}
 unfoldable pub mssOption : List ℕ → ℕ → ℕ → Mss
 mssOption area i len = cond (eqb (byteAt area i) 2 && eqb len 4) (Given (wordAt area (i + 2))) NotGiven
 
--- a cookie's option has an even length of 6 to 18
-abbrev pub cookieLength : ℕ → Bool
-cookieLength len = leb 6 len && (leb len 18 && eqb (len % 2) 0)
+-- RFC 7413, 4.1.1: a cookie has 4 to 16 bytes, an even number
+unfoldable pub isCookieLength : ℕ → Bool
+isCookieLength n = leb 4 n && (leb n 16 && eqb (n % 2) 0)
 
--- kind 34 counts with length 2, an empty cookie that asks for one, or with a cookie, which begins two bytes further on
+-- an option with n bytes of cookie at a place: an empty cookie asks for one, and with any other length the option is skipped
+unfoldable pub cookieAt : ℕ → ℕ → FastOpen
+cookieAt at n = cond (eqb n 0) Request (cond (isCookieLength n) (Cookie at n) Absent)
+
+-- kind 34 has its cookie after two bytes: it counts with length 2, or an even length of 6 to 18
 unfoldable pub fastOpenOption : List ℕ → ℕ → ℕ → FastOpen
-fastOpenOption area i len =
-    cond (eqb (byteAt area i) 34) (cond (eqb len 2) Request (cond (cookieLength len) (Cookie (i + 2) (len - 2)) Absent)) Absent
+fastOpenOption area i len = cond (eqb (byteAt area i) 34) (cookieAt (i + 2) (len - 2)) Absent
 
 -- of several that count the first is used
 abbrev pub firstMss : Mss → Mss → Mss

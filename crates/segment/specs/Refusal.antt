@@ -38,7 +38,7 @@ Checks = List (Refusal × Bool)
 abbrev pub same : Refusal → Refusal → Bool
 same a b = eqb (numberOf a) (numberOf b)
 
--- a refusal that a call does not have does not apply
+-- a refusal applies if any check that the call has for it does
 abbrev pub applies : Checks → Refusal → Bool
 applies [] r = false
 applies (c ∷ cs) r = cond (same (c .0) r) (applies cs r || c .1) (applies cs r)

@@ -8,7 +8,7 @@ use lib.Dec.{ltb}
 unfoldable pub nextAfter : ℕ → ℕ → ℕ
 nextAfter initial bytes = (initial + 1 + bytes) % 2 ^ 32
 
--- a − b, both below 2^32
+-- a − b modulo 2^32, for a and b below it
 unfoldable pub difference : ℕ → ℕ → ℕ
 difference a b = (a + 2 ^ 32 - b) % 2 ^ 32
 

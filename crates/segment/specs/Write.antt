@@ -7,6 +7,7 @@ use lib.ListN.{length, drop, replicate}
 use lib.Dec.{leb, eqb}
 use Rattle.segment.specs.Bytes.{be16, be32}
 use Rattle.segment.specs.Header.{SYN, ACK}
+use Rattle.segment.specs.Options.{isCookieLength}
 use Rattle.segment.specs.Checksum.{complement, oneFamily, segmentSum}
 use Rattle.segment.specs.Sequence.{nextAfter}
 use Rattle.segment.specs.declared.write.Outgoing.{Outgoing}
@@ -21,9 +22,9 @@ mssBytes mss = 2 ∷ 4 ∷ be16 mss
 abbrev pub fastOpenBytes : List ℕ → List ℕ
 fastOpenBytes cookie = 34 ∷ (length cookie + 2) ∷ cookie
 
--- RFC 7413, 4.1.1: the lengths that a cookie may have, 0 (a request) or an even 4 to 16
-unfoldable pub cookieSize : ℕ → Bool
-cookieSize n = eqb n 0 || (leb 4 n && (leb n 16 && eqb (n % 2) 0))
+-- how many bytes of cookie an option may have: none (a request), or a cookie's
+unfoldable pub isOptionCookie : ℕ → Bool
+isOptionCookie n = eqb n 0 || isCookieLength n
 
 -- how many bytes of kind 1 follow n bytes of options, up to a multiple of four
 abbrev pub padding : ℕ → ℕ
@@ -60,18 +61,18 @@ optionsFor f cookie = optionBytes (f .mss) (f .fast) cookie
 abbrev pub lengthFor : Outgoing → List ℕ → List ℕ → ℕ
 lengthFor f cookie payload = 20 + length (optionsFor f cookie) + length payload
 
--- A segment is written where its addresses are of one family, its cookie has a length that an option may have, it has no more than the
--- 1,520 bytes that are read, and the output has room for it.
+-- A segment is written where its addresses are of one family, an option may have its cookie if it is to have the option, it has no more
+-- than the 1,520 bytes that are read, and the output has room for it.
 unfoldable pub canWrite : List ℕ → List ℕ → Outgoing → List ℕ → List ℕ → ℕ → Bool
 canWrite src dst f cookie payload room =
     oneFamily src dst
-    && ((not (f .fast) || cookieSize (length cookie))
+    && ((not (f .fast) || isOptionCookie (length cookie))
     && (leb (lengthFor f cookie payload) 1520 && leb (lengthFor f cookie payload) room))
 
--- The same by lengths, for the code's private functions: the length of the options, 0 where a cookie may not have its length, and the
--- length of a segment that can be written, else 0.
+-- The same by lengths, for the code's private functions: the length of the options with a cookie of n bytes, 0 where no option may have
+-- it, and the length of a segment that can be written, else 0.
 abbrev pub optionLength : Bool → ℕ → ℕ
-optionLength fast cookie = cond (not fast) 4 (cond (cookieSize cookie) (4 + (cookie + 5) / 4 * 4) 0)
+optionLength fast n = cond (not fast) 4 (cond (isOptionCookie n) (4 + (n + 5) / 4 * 4) 0)
 
 unfoldable pub writableLength : Bool → ℕ → ℕ → ℕ → ℕ
 writableLength family options payload room =

@@ -7,7 +7,7 @@ ghost use lib.ListN.{length};
 ghost use Rattle.segment.specs.Bytes.{byteAt};
 ghost use Rattle.segment.specs.Header.{malformed, fieldsOf, shapeOf, optionArea, payloadOf, SYN, has, kindOf, synAck};
 
-// The fields of a header. The offset is its length in 32-bit words.
+// The fields of a header that are used. The offset is its length in 32-bit words.
 pub struct Header {
     pub source: u16,
     pub dest: u16,

@@ -62,16 +62,14 @@ fn fast_open_option(area: &[u8], i: usize, len: usize) -> FastOpen
     ensures { λ r. ⌜ r ≡ fastOpenOption (now (area .entry)) i len ⌝ }
 {
     if area[i] == 34 {
-        if len == 2 {
+        let n = len - 2;
+        if n == 0 {
             return FastOpen::Request;
         }
-        if 6 <= len {
-            if len <= 18 {
-                if len % 2 == 0 {
-                    return FastOpen::Cookie {
-                        at: i + 2,
-                        len: len - 2,
-                    };
+        if 4 <= n {
+            if n <= 16 {
+                if n % 2 == 0 {
+                    return FastOpen::Cookie { at: i + 2, len: n };
                 }
             }
         }

@@ -1,8 +1,8 @@
 // The segments that are written: the listener's answer and the client's opening (RFC 9293, 3.1; RFC 7413, 4.1.1).
 //
 // A write leaves its bytes at the output's start and the later bytes as they were, and answers how many bytes it wrote. Nothing is
-// written, and the answer is 0, where the output is too short, the addresses are not of one family, the cookie has a length that no
-// option may have, or the segment would have more than 1,520 bytes (`canWrite` in specs/Write.antt).
+// written, and the answer is 0, where the output is too short, the addresses are not of one family, a Fast Open option is asked for that
+// may not have a cookie of that length, or the segment would have more than 1,520 bytes (`canWrite` in specs/Write.antt).
 use crate::checksum::add_bytes;
 use crate::checksum::is_one_family;
 use crate::checksum::pseudo_sum;
@@ -141,26 +141,26 @@ fn put_header(out: &mut [u8], src: &[u8], dst: &[u8], f: Outgoing, offset: u8, n
     bytes::copy(&with_checksum, out);
 }
 
-// The length of the options, or 0 where the cookie has a length that no option may have.
-fn option_length(fast: bool, cookie: usize) -> usize
-    ensures { λ r. ⌜ (r ≡ optionLength fast cookie) × (r ≤ 24) ⌝ }
+// The length of the options with a cookie of n bytes, or 0 where no option may have it.
+fn option_length(fast: bool, n: usize) -> usize
+    ensures { λ r. ⌜ (r ≡ optionLength fast n) × (r ≤ 24) ⌝ }
 {
     if !fast {
         return 4;
     }
-    if cookie == 0 {
+    if n == 0 {
         return 8;
     }
-    if cookie < 4 {
+    if n < 4 {
         return 0;
     }
-    if 16 < cookie {
+    if 16 < n {
         return 0;
     }
-    if cookie % 2 != 0 {
+    if n % 2 != 0 {
         return 0;
     }
-    4 + (cookie + 5) / 4 * 4
+    4 + (n + 5) / 4 * 4
 }
 
 // The length of a segment that can be written, else 0.
