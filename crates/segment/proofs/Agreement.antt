@@ -21,7 +21,8 @@ use Rattle.segment.specs.declared.options.FastOpen.the-variants.{Absent,
 use Rattle.segment.specs.declared.options.Options.{Options}
 use Rattle.segment.specs.declared.write.Outgoing.{Outgoing}
 use Rattle.segment.proofs.Reading.{readAt, one-step}
-use Rattle.segment.proofs.Folding.{Bytes, bytes-append, sum-with-complement}
+use Rattle.segment.proofs.Folding.{sum-with-complement}
+use Rattle.segment.proofs.ByteLists.{Bytes, bytes-append}
 use Rattle.segment.proofs.Family.{family, pseudo-even, pseudo-bytes}
 use Rattle.segment.proofs.Writes.{options-plain, options-fast}
 use Rattle.segment.proofs.Written.{Writable, writable, option-cookie, options-most, with-length}
@@ -103,7 +104,7 @@ cookie-back mss (b ∷ rest) = take-at (b ∷ rest) _ (suc (length rest)) refl
 
 -- Segments
 
--- a field fits its width
+-- each field fits its width
 pub record Fits (f : Outgoing) : Type 0 where
   pub source : f .source < 65536
   pub dest : f .dest < 65536
@@ -148,11 +149,13 @@ options-bytes mss true cookie h b =
     let l : length cookie + 2 < 256 = omega (arith, length-append cookie (replicate {A = ℕ} n 1)) in
     (omega arith, (omega arith, (omega arith, (omega arith, (omega arith, (l, bytes-append cookie (replicate n 1) b (ones-bytes n)))))))
 
--- what is read from a segment that was written
+-- What is read from a segment that was written, with its checksum right; the options are those that count.
 pub record ReadBack (src dst : List ℕ) (f : Outgoing) (cookie payload seg : List ℕ) : Type 0 where
   pub shape : shapeOf seg ≡ WellFormed (headerOf f (length (optionsFor f cookie)))
   pub flags : byteAt seg 13 ≡ f .flags
   pub area : optionArea seg ≡ optionsFor f cookie
+  pub options : optionsOf seg ≡ foundFor (f .mss) (f .fast) cookie
+  pub bytes : f .fast ≡ true → cookieBytes (optionsOf seg .fast) (optionArea seg) ≡ cookie
   pub content : payloadOf seg ≡ payload
   pub right : checksumRight src dst seg ≡ true
   pub size : length seg ≡ lengthFor f cookie payload
@@ -219,36 +222,41 @@ module _ (src dst : List ℕ) (f : Outgoing) (cookie payload : List ℕ) (room :
       (bytes-append p before (pseudo-bytes src dst n bs bd) (before-bytes hf))
       (omega arith, (omega arith, bytes-append o payload (options-bytes (f .mss) (f .fast) cookie (options-most (f .mss) (f .fast) cookie (w .sized)) bc) bp))
 
--- the law: what is read from a segment that was written is what was written, and its checksum is right
+-- its options count as they were put there, if it has the SYN flag
+options-counted : (f : Outgoing) (cookie seg : List ℕ) → byteAt seg 13 ≡ f .flags → optionArea seg ≡ optionsFor f cookie
+    → f .mss < 65536 → not (f .fast) || isOptionCookie (length cookie) ≡ true → has (f .flags) SYN ≡ true → optionsOf seg ≡ foundFor (f .mss) (f .fast) cookie
+unfolding optionsOf
+options-counted f cookie seg flags area h s e = rw (flags, e, area) (options-back (f .mss) (f .fast) cookie h s)
+
+cookie-counted : (f : Outgoing) (cookie seg : List ℕ) → optionArea seg ≡ optionsFor f cookie → optionsOf seg ≡ foundFor (f .mss) (f .fast) cookie
+    → f .fast ≡ true → cookieBytes (optionsOf seg .fast) (optionArea seg) ≡ cookie
+cookie-counted f cookie seg area options e =
+    ap₂ (λ (found : Options) (bytes : List ℕ). cookieBytes (found .fast) bytes) options area
+    ∙ ap (λ (t : Bool). cookieBytes (fastOpenFor t cookie) (optionBytes (f .mss) t cookie)) e
+    ∙ cookie-back (f .mss) cookie
+
+-- the law: what is read from a segment with SYN that was written is what was written, and its checksum is right
 pub read-back : (src dst : List ℕ) (f : Outgoing) (cookie payload : List ℕ) (room : ℕ) → canWrite src dst f cookie payload room ≡ true
-    → Fits f → Bytes src → Bytes dst → Bytes cookie → Bytes payload
+    → has (f .flags) SYN ≡ true → Fits f → Bytes src → Bytes dst → Bytes cookie → Bytes payload
     → ReadBack src dst f cookie payload (written src dst f cookie payload room)
 unfolding written segmentBytes shapeOf checksumRight
-read-back src dst f cookie payload room can h bs bd bc bp =
+read-back src dst f cookie payload room can syn h bs bd bc bp =
     let w = writable src dst f cookie payload room can in
     let o = optionsFor f cookie in
     let check = complement (segmentSum src dst (segmentWith f 0 o payload)) in
-    let e : written src dst f cookie payload room ≡ segmentWith f check o payload = rw can in
+    let seg = segmentWith f check o payload in
+    let e : written src dst f cookie payload room ≡ seg = rw can in
+    let flags = flags-back f check o payload in
+    let area = area-back src dst f cookie payload room w check in
+    let options = options-counted f cookie seg flags area (h .mss) (w .sized) syn in
     subst (ReadBack src dst f cookie payload) (sym e)
     (record {
       shape = rw (well-formed src dst f cookie payload room w check, fields-back f check o payload h);
-      flags = flags-back f check o payload;
-      area = area-back src dst f cookie payload room w check;
+      flags = flags;
+      area = area;
+      options = options;
+      bytes = cookie-counted f cookie seg area options;
       content = payload-back src dst f cookie payload room w check;
       right = rw (w .one, sum-full src dst f cookie payload room w bs bd bc bp (h .flags));
       size = with-length f check o payload;
     })
-
--- its options count as they were put there, if it has the SYN flag
-pub options-counted : (src dst : List ℕ) (f : Outgoing) (cookie payload seg : List ℕ) → ReadBack src dst f cookie payload seg
-    → f .mss < 65536 → not (f .fast) || isOptionCookie (length cookie) ≡ true → has (f .flags) SYN ≡ true → optionsOf seg ≡ foundFor (f .mss) (f .fast) cookie
-unfolding optionsOf
-options-counted src dst f cookie payload seg b h s e = rw (b .flags, e, b .area) (options-back (f .mss) (f .fast) cookie h s)
-
--- and so do the bytes of its cookie
-pub cookie-counted : (src dst : List ℕ) (f : Outgoing) (cookie payload seg : List ℕ) → ReadBack src dst f cookie payload seg
-    → optionsOf seg ≡ foundFor (f .mss) (f .fast) cookie → f .fast ≡ true → cookieBytes (optionsOf seg .fast) (optionArea seg) ≡ cookie
-cookie-counted src dst f cookie payload seg b o e =
-    ap₂ (λ (found : Options) (area : List ℕ). cookieBytes (found .fast) area) o (b .area)
-    ∙ ap (λ (t : Bool). cookieBytes (fastOpenFor t cookie) (optionBytes (f .mss) t cookie)) e
-    ∙ cookie-back (f .mss) cookie

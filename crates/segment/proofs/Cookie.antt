@@ -1,6 +1,6 @@
 -- What is found in an option area: a cookie lies in it and has 4 to 16 bytes, an even number. Assumes nothing.
 use Prim.Native.Nat.{ℕ, zero, suc, _+_, _-_, _%_, _≤_}
-use mathlib.Core.Path.{_≡_, refl}
+use mathlib.Core.Path.{_≡_}
 use mathlib.Core.Bool.{Bool, true, false, cond, _&&_}
 use mathlib.Core.List.{List, [], _∷_}
 use native.Mathlib.Omega.{arith}
@@ -14,7 +14,7 @@ use Rattle.segment.specs.declared.options.FastOpen.{FastOpen}
 use Rattle.segment.specs.declared.options.FastOpen.the-variants.{Absent, Request, Cookie}
 use Rattle.segment.specs.declared.options.Options.{Options}
 use Rattle.segment.specs.Options.{isCookieLength, cookieAt, fastOpenOption, firstFastOpen, withOption, readFrom, readOptions, ifSyn, optionsOf, cookieBytes}
-use Rattle.segment.proofs.Family.{and-true}
+use Rattle.segment.proofs.Bools.{and-true, chosen}
 
 -- 4 to 16 bytes, an even number
 pub record CookieLength (n : ℕ) : Type 0 where
@@ -31,11 +31,6 @@ abbrev pub AllInside : ℕ → FastOpen → Type 0
 AllInside n Absent = Unit {0}
 AllInside n Request = Unit {0}
 AllInside n (Cookie at len) = Inside n at len
-
--- what holds of both choices holds of the one taken
-chosen : {A : Type 0} (P : A → Type 0) (t : Bool) (a b : A) → (t ≡ true → P a) → (t ≡ false → P b) → P (cond t a b)
-chosen P true a b f g = f refl
-chosen P false a b f g = g refl
 
 first-inside : (n : ℕ) (f g : FastOpen) → AllInside n f → AllInside n g → AllInside n (firstFastOpen f g)
 first-inside n Absent g p q = q
@@ -69,15 +64,18 @@ from-inside area i (suc skip) (b ∷ rest) found h p = from-inside area (i + 1) 
 from-inside area i zero (kind ∷ rest) found h p =
     let Q : Options → Type 0 = λ o. AllInside (length area) (o .fast) in
     let len = byteAt rest 0 in
-    chosen Q (eqb kind 0) _ _ (λ _. p)
-    (λ _. chosen Q (eqb kind 1) _ _ (λ _. from-inside area (i + 1) 0 rest found (omega arith) p)
-    (λ _. chosen Q (leb 2 len && leb len (length rest + 1)) _ _
+    let fits = leb 2 len && leb len (length rest + 1) in
+    let one = readFrom area (i + 1) 0 rest found in
+    let on = readFrom area (i + 1) (len - 1) rest (withOption found area i len) in
+    chosen Q (eqb kind 0) found (cond (eqb kind 1) one (cond fits on found)) (λ _. p)
+    (λ _. chosen Q (eqb kind 1) one (cond fits on found) (λ _. from-inside area (i + 1) 0 rest found (omega arith) p)
+    (λ _. chosen Q fits on found
     (λ e.
-    let t = and-true (leb 2 len) _ e in
+    let t = and-true (leb 2 len) (leb len (length rest + 1)) e in
     let a = leb-true 2 len (t .0) in
     let b = leb-true len (length rest + 1) (t .1) in
     from-inside area (i + 1) (len - 1) rest (withOption found area i len) (omega arith)
-    (first-inside (length area) (found .fast) _ p (option-inside (length area) area i len (omega arith) a)))
+    (first-inside (length area) (found .fast) (fastOpenOption area i len) p (option-inside (length area) area i len (omega arith) a)))
     (λ _. p)))
 
 pub inside : (area : List ℕ) → AllInside (length area) (readOptions area .fast)

@@ -6,22 +6,20 @@ use mathlib.Core.List.{List, []}
 use native.Mathlib.Omega.{arith}
 use lib.ListN.{length}
 use borrow.Author.Tests.{le-leb, ne-eqb}
-use Rattle.segment.specs.Bytes.{byteAt}
-use Rattle.segment.specs.Header.{has, kindOf, synAck, shapeOf, optionArea, payloadOf}
-use Rattle.segment.specs.Options.{isCookieLength, optionsOf, cookieBytes}
-use Rattle.segment.specs.Checksum.{oneFamily, checksumRight}
+use Rattle.segment.specs.Header.{SYN, ACK, has, kindOf, synAck}
+use Rattle.segment.specs.Options.{isCookieLength}
+use Rattle.segment.specs.Checksum.{oneFamily}
 use Rattle.segment.specs.Sequence.{nextAfter, difference, acknowledged}
 use Rattle.segment.specs.Write.{isOptionCookie, optionBytes, optionsFor, lengthFor, canWrite, written, answerFields, answerBytes, openingFields, openingBytes}
 use Rattle.segment.specs.declared.header.Kind.the-variants.{Syn}
-use Rattle.segment.specs.declared.header.Shape.the-variants.{WellFormed}
 use Rattle.segment.specs.declared.write.Answer.{Answer}
 use Rattle.segment.specs.declared.write.Opening.{Opening}
 use Rattle.segment.specs.declared.write.Outgoing.{Outgoing}
-use Rattle.segment.proofs.Folding.{Bytes}
+use Rattle.segment.proofs.ByteLists.{Bytes}
 use Rattle.segment.proofs.Cookie.{Inside, length-cookie}
 use Rattle.segment.proofs.Writes.{options-plain, options-fast}
-use Rattle.segment.proofs.Written.{writable, options-most, segment-length}
-use Rattle.segment.proofs.Agreement.{Fits, headerOf, foundFor, read-back, options-counted, cookie-counted}
+use Rattle.segment.proofs.Written.{options-most, segment-length}
+use Rattle.segment.proofs.Agreement.{Fits, ReadBack, read-back}
 
 -- Where there is room
 
@@ -94,86 +92,37 @@ opening-can src dst o cookie payload room e s p r =
 
 -- Read by the other end
 
--- the numbers of an answer fit their widths
-pub record AnswerFits (a : Answer) : Type 0 where
-  pub source : a .source < 65536
-  pub dest : a .dest < 65536
-  pub iss : a .iss < 4294967296
-  pub mss : a .mss < 65536
-
-pub next-fits : (initial bytes : ℕ) → nextAfter initial bytes < 4294967296
+next-fits : (initial bytes : ℕ) → nextAfter initial bytes < 4294967296
 unfolding nextAfter
 next-fits initial bytes = omega arith
 
--- the client reads an answer as it was written
-pub record AnswerRead (src dst : List ℕ) (a : Answer) (cookie seg : List ℕ) : Type 0 where
-  pub shape : shapeOf seg ≡ WellFormed (headerOf (answerFields a) (length (optionsFor (answerFields a) cookie)))
-  pub kind : synAck (byteAt seg 13) ≡ true
-  pub options : optionsOf seg ≡ foundFor (a .mss) (a .fresh) cookie
-  pub bytes : a .fresh ≡ true → cookieBytes (optionsOf seg .fast) (optionArea seg) ≡ cookie
-  pub area : optionArea seg ≡ optionBytes (a .mss) (a .fresh) cookie
-  pub content : payloadOf seg ≡ []
-  pub right : checksumRight src dst seg ≡ true
-  pub size : length seg ≡ answerLength (a .fresh)
+-- the fields of an answer and of an opening fit, if their numbers do
+pub answer-fits : (a : Answer) → a .source < 65536 → a .dest < 65536 → a .iss < 4294967296 → a .mss < 65536 → Fits (answerFields a)
+answer-fits a s d i m = record { source = s; dest = d; seq = i; ack = next-fits (a .irs) (a .accepted); flags = omega arith; mss = m }
 
-pub answer-read : (src dst : List ℕ) (a : Answer) (cookie : List ℕ) (room : ℕ) → length cookie ≡ 8
-    → canWrite src dst (answerFields a) cookie [] room ≡ true
-    → AnswerFits a → Bytes src → Bytes dst → Bytes cookie → AnswerRead src dst a cookie (answerBytes src dst a cookie room)
-unfolding answerBytes synAck has
-answer-read src dst a cookie room l can h bs bd bc =
-    let g = answerFields a in
-    let fits : Fits g = record { source = h .source; dest = h .dest; seq = h .iss; ack = next-fits (a .irs) (a .accepted); flags = omega arith; mss = h .mss } in
-    let b = read-back src dst g cookie [] room can fits bs bd bc tt in
-    let seg = written src dst g cookie [] room in
-    let o = options-counted src dst g cookie [] seg b (h .mss) (option-eight (a .fresh) (length cookie) l) refl in
-    record {
-      shape = b .shape;
-      kind = rw (b .flags);
-      options = o;
-      bytes = cookie-counted src dst g cookie [] seg b o;
-      area = b .area;
-      content = b .content;
-      right = b .right;
-      size = b .size ∙ answer-length a cookie l;
-    }
+pub opening-fits : (o : Opening) → o .source < 65536 → o .dest < 65536 → o .iss < 4294967296 → o .mss < 65536 → Fits (openingFields o)
+opening-fits o s d i m = record { source = s; dest = d; seq = i; ack = omega arith; flags = omega arith; mss = m }
 
--- the numbers of an opening fit their widths
-pub record OpeningFits (o : Opening) : Type 0 where
-  pub source : o .source < 65536
-  pub dest : o .dest < 65536
-  pub iss : o .iss < 4294967296
-  pub mss : o .mss < 65536
+-- the client reads an answer as it was written, and takes it for one
+pub answer-read : (src dst : List ℕ) (a : Answer) (cookie : List ℕ) (room : ℕ) → canWrite src dst (answerFields a) cookie [] room ≡ true
+    → Fits (answerFields a) → Bytes src → Bytes dst → Bytes cookie → ReadBack src dst (answerFields a) cookie [] (answerBytes src dst a cookie room)
+unfolding answerBytes has
+answer-read src dst a cookie room can h bs bd bc = read-back src dst (answerFields a) cookie [] room can refl h bs bd bc tt
 
--- the listener reads an opening as it was written
-pub record OpeningRead (src dst : List ℕ) (o : Opening) (cookie payload seg : List ℕ) : Type 0 where
-  pub shape : shapeOf seg ≡ WellFormed (headerOf (openingFields o) (length (optionsFor (openingFields o) cookie)))
-  pub kind : kindOf (byteAt seg 13) ≡ Syn
-  pub options : optionsOf seg ≡ foundFor (o .mss) (o .fast) cookie
-  pub bytes : o .fast ≡ true → cookieBytes (optionsOf seg .fast) (optionArea seg) ≡ cookie
-  pub area : optionArea seg ≡ optionBytes (o .mss) (o .fast) cookie
-  pub content : payloadOf seg ≡ payload
-  pub right : checksumRight src dst seg ≡ true
-  pub size : length seg ≡ lengthFor (openingFields o) cookie payload
+pub answer-kind : synAck (SYN + ACK) ≡ true
+unfolding synAck has
+answer-kind = refl
 
+-- the listener reads an opening as it was written, and takes it for one
 pub opening-read : (src dst : List ℕ) (o : Opening) (cookie payload : List ℕ) (room : ℕ) → canWrite src dst (openingFields o) cookie payload room ≡ true
-    → OpeningFits o → Bytes src → Bytes dst → Bytes cookie → Bytes payload → OpeningRead src dst o cookie payload (openingBytes src dst o cookie payload room)
-unfolding openingBytes kindOf has
-opening-read src dst o cookie payload room can h bs bd bc bp =
-    let g = openingFields o in
-    let fits : Fits g = record { source = h .source; dest = h .dest; seq = h .iss; ack = omega arith; flags = omega arith; mss = h .mss } in
-    let b = read-back src dst g cookie payload room can fits bs bd bc bp in
-    let seg = written src dst g cookie payload room in
-    let c = options-counted src dst g cookie payload seg b (h .mss) (writable src dst g cookie payload room can .sized) refl in
-    record {
-      shape = b .shape;
-      kind = rw (b .flags);
-      options = c;
-      bytes = cookie-counted src dst g cookie payload seg b c;
-      area = b .area;
-      content = b .content;
-      right = b .right;
-      size = b .size;
-    }
+    → Fits (openingFields o) → Bytes src → Bytes dst → Bytes cookie → Bytes payload
+    → ReadBack src dst (openingFields o) cookie payload (openingBytes src dst o cookie payload room)
+unfolding openingBytes has
+opening-read src dst o cookie payload room can h bs bd bc bp = read-back src dst (openingFields o) cookie payload room can refl h bs bd bc bp
+
+pub opening-kind : kindOf SYN ≡ Syn
+unfolding kindOf has
+opening-kind = refl
 
 -- the count that a client finds acknowledged is the count that was accepted
 pub acknowledged-accepted : (iss accepted : ℕ) → iss < 2 ^ 32 → accepted < 2 ^ 32 → acknowledged iss (nextAfter iss accepted) ≡ accepted

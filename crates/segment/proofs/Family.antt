@@ -1,19 +1,16 @@
 -- Addresses of one family, and the pseudo-header between them. Assumes nothing.
 use Prim.Native.Nat.{ℕ, _%_, _≤_}
 use mathlib.Core.Path.{_≡_, refl, ap, sym, _∙_}
-use mathlib.Core.Bool.{Bool, true, false, false≢true, _&&_, _||_}
+use mathlib.Core.Bool.{Bool, true, false, _||_}
 use mathlib.Core.List.{List, _++_}
 use native.Mathlib.Omega.{arith}
 use lib.ListN.{length, length-append}
 use lib.Dec.{eqb}
 use borrow.Author.Tests.{eqb-true}
 use Rattle.segment.specs.Checksum.{onesSum, oneFamily, pseudoTail, pseudoHeader, segmentSum}
+use Rattle.segment.proofs.Bools.{and-true}
 use Rattle.segment.proofs.Sums.{sum-append}
-use Rattle.segment.proofs.Folding.{Bytes, bytes-append}
-
-pub and-true : (a b : Bool) → a && b ≡ true → (a ≡ true) × (b ≡ true)
-and-true true b e = (refl, e)
-and-true false b e = absurd (false≢true e)
+use Rattle.segment.proofs.ByteLists.{Bytes, bytes-append}
 
 -- an address has 4 or 16 bytes, so an even number, and the two have as many
 pub record Family (src dst : List ℕ) : Type 0 where

@@ -1,12 +1,13 @@
 -- The value of a sum whose carries are put off, and a checksum that is right by its making. Assumes nothing.
-use Prim.Native.Nat.{ℕ, suc, _+_, _-_, _*_, _/_, _%_, _<_}
+use Prim.Native.Nat.{ℕ, _+_, _-_, _*_, _/_, _%_, _<_}
 use mathlib.Core.Path.{_≡_, ap, sym, _∙_}
 use mathlib.Core.List.{List, [], _∷_, _++_}
 use native.Mathlib.Nat.{add-zero, add-assoc}
 use native.Mathlib.Omega.{arith}
 use lib.ListN.{length}
-use Rattle.segment.specs.Bytes.{byteAt, be16, word}
+use Rattle.segment.specs.Bytes.{be16, word}
 use Rattle.segment.specs.Checksum.{onesAdd, onesSum, complement}
+use Rattle.segment.proofs.ByteLists.{Bytes, bytes-append}
 
 -- the word that a total of words comes to once its carries are added at the low end: 0 for 0 alone, else 1 to 65535
 unfoldable norm : ℕ → ℕ
@@ -37,20 +38,6 @@ sum-total sum (a ∷ []) = omega arith
 sum-total sum (a ∷ b ∷ rest) =
     sum-total (onesAdd sum (word a b)) rest ∙ fold16 (sum + word a b) (total rest) ∙ ap norm (add-assoc sum (word a b) (total rest))
 
--- a list of bytes
-abbrev pub Bytes : List ℕ → Type 0
-Bytes [] = Unit {0}
-Bytes (x ∷ xs) = (x < 256) × Bytes xs
-
-pub bytes-append : (a b : List ℕ) → Bytes a → Bytes b → Bytes (a ++ b)
-bytes-append [] b p q = q
-bytes-append (x ∷ xs) b p q = (p .0, bytes-append xs b (p .1) q)
-
--- bytes that are told of a slice, index by index
-pub bytes-of : (s : List ℕ) → ((i : ℕ) → byteAt s i < 256) → Bytes s
-bytes-of [] h = tt
-bytes-of (x ∷ xs) h = (h 0, bytes-of xs (λ i. h (suc i)))
-
 -- the sum of bytes, from a word, is a word
 sum-small : (sum : ℕ) (s : List ℕ) → sum < 65536 → Bytes s → onesSum sum s < 65536
 unfolding onesSum onesAdd
@@ -68,10 +55,6 @@ unfolding total
 total-append [] b h = omega arith
 total-append (x ∷ []) b h = absurd (omega arith)
 total-append (x ∷ y ∷ rest) b h = omega (arith, total-append rest b (omega arith))
-
--- the sum of bytes is a word
-pub sum-word : (s : List ℕ) → Bytes s → onesSum 0 s < 65536
-sum-word s b = sum-small 0 s (omega arith) b
 
 -- where a word of zeros gives way to the complement of the sum, the sum is 65535
 pub sum-with-complement : (a b : List ℕ) → length a % 2 ≡ 0 → Bytes a → Bytes b →

@@ -1,7 +1,7 @@
 -- What holds of a segment that is well formed, and of its parts. Assumes nothing.
 use Prim.Native.Nat.{ℕ, _+_, _-_, _<_, _≤_}
 use mathlib.Core.Path.{_≡_, refl, ap, sym, _∙_}
-use mathlib.Core.Bool.{Bool, true, false, true≢false, _||_, cond}
+use mathlib.Core.Bool.{Bool, true, false, cond}
 use mathlib.Core.List.{List, [], _++_}
 use native.Mathlib.Omega.{arith}
 use lib.ListN.{length, take, drop, length-take, take-append-drop}
@@ -12,10 +12,7 @@ use Rattle.segment.specs.Bytes.{byteAt}
 use Rattle.segment.specs.Header.{malformed, offsetOf, headerLength, fieldsOf, shapeOf, shapeCheck, optionArea, payloadOf}
 use Rattle.segment.specs.Refusal.{answered}
 use Rattle.segment.specs.declared.header.Shape.the-variants.{Malformed, WellFormed}
-
-or-false : (a b : Bool) → a || b ≡ false → (a ≡ false) × (b ≡ false)
-or-false true b e = absurd (true≢false e)
-or-false false b e = (refl, e)
+use Rattle.segment.proofs.Bools.{or-false}
 
 -- none of the four reasons for refusal 1
 pub record Formed (s : List ℕ) : Type 0 where

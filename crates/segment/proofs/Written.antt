@@ -12,7 +12,7 @@ use Rattle.segment.specs.declared.write.Outgoing.{Outgoing}
 use Rattle.segment.specs.Options.{isCookieLength}
 use Rattle.segment.specs.Checksum.{onesSum, complement, oneFamily, pseudoHeader, segmentSum}
 use Rattle.segment.specs.Write.{headerBytes, segmentWith, segmentBytes, isOptionCookie, optionBytes, optionsFor, lengthFor, optionLength, writableLength, canWrite, written, overwrite}
-use Rattle.segment.proofs.Family.{and-true}
+use Rattle.segment.proofs.Bools.{and-true}
 use Rattle.segment.proofs.Cookie.{cookie-length}
 use Rattle.segment.proofs.Writes.{options-plain, options-fast, options-least}
 
