@@ -1,6 +1,6 @@
 -- The answer and the opening, written by one end and read by the other. Assumes nothing.
 use Prim.Native.Nat.{ℕ, _+_, _^_, _<_, _≤_}
-use mathlib.Core.Path.{_≡_, refl, ap, _∙_}
+use mathlib.Core.Path.{_≡_, refl, _∙_}
 use mathlib.Core.Bool.{Bool, true, false, not, _||_}
 use mathlib.Core.List.{List, []}
 use native.Mathlib.Omega.{arith}
@@ -38,7 +38,7 @@ pub option-found : (n at len : ℕ) → Inside n at len → isOptionCookie len �
 unfolding isOptionCookie
 option-found n at len h =
     let c = h .size in
-    rw (ne-eqb len 0 (λ e. omega arith), length-cookie len (h .size))
+    rw (ne-eqb len 0 (λ e. omega arith), length-cookie len c)
 
 pub option-eight : (fast : Bool) (n : ℕ) → n ≡ 8 → not fast || isOptionCookie n ≡ true
 unfolding isOptionCookie isCookieLength
@@ -57,23 +57,17 @@ answer-length a cookie h = go (a .fresh)
     go false = omega (arith, options-plain (a .mss) cookie)
     go true = omega (arith, options-fast (a .mss) cookie)
 
+answer-most : (fresh : Bool) → answerLength fresh ≤ 36
+answer-most false = omega arith
+answer-most true = omega arith
+
 -- 36 bytes of output are enough for any answer
 pub answer-can : (src dst : List ℕ) (a : Answer) (cookie : List ℕ) (room : ℕ) → oneFamily src dst ≡ true → length cookie ≡ 8 → 36 ≤ room
     → canWrite src dst (answerFields a) cookie [] room ≡ true
-answer-can src dst a cookie room e l r = go (a .fresh) refl
-  where
-    go : (b : Bool) → a .fresh ≡ b → canWrite src dst (answerFields a) cookie [] room ≡ true
-    go b q =
-        let n = answer-length a cookie l ∙ ap answerLength q in
-        can-write src dst (answerFields a) cookie [] room e (option-eight (a .fresh) (length cookie) l) (most b n) (least b n)
-      where
-        most : (b : Bool) → lengthFor (answerFields a) cookie [] ≡ answerLength b → lengthFor (answerFields a) cookie [] ≤ 1520
-        most false n = omega arith
-        most true n = omega arith
-
-        least : (b : Bool) → lengthFor (answerFields a) cookie [] ≡ answerLength b → lengthFor (answerFields a) cookie [] ≤ room
-        least false n = omega arith
-        least true n = omega arith
+answer-can src dst a cookie room e l r =
+    let n = answer-length a cookie l in
+    let m = answer-most (a .fresh) in
+    can-write src dst (answerFields a) cookie [] room e (option-eight (a .fresh) (length cookie) l) (omega arith) (omega arith)
 
 -- and it has 24 or 36 of them
 pub answer-bytes : (src dst : List ℕ) (a : Answer) (cookie : List ℕ) (room : ℕ) → oneFamily src dst ≡ true → length cookie ≡ 8 → 36 ≤ room
