@@ -1,7 +1,7 @@
 -- Reading back what was written: the fields, the options, the payload, and a checksum that is right. Assumes nothing.
 use Prim.Native.Nat.{ℕ, zero, suc, _+_, _-_, _*_, _/_, _%_, _<_, _≤_}
 use mathlib.Core.Path.{_≡_, refl, ap, ap₂, sym, _∙_, subst}
-use mathlib.Core.Bool.{Bool, true, false, not, _||_}
+use mathlib.Core.Bool.{Bool, true, false}
 use mathlib.Core.List.{List, [], _∷_, _++_, append-assoc}
 use native.Mathlib.Omega.{arith}
 use lib.ListN.{length, drop, replicate, length-append}
@@ -12,7 +12,7 @@ use Rattle.segment.specs.Bytes.{byteAt, be16, be32, word, long}
 use Rattle.segment.specs.Header.{SYN, has, malformed, offsetOf, headerLength, fieldsOf, shapeOf, optionArea, payloadOf}
 use Rattle.segment.specs.Options.{nothing, mssOption, cookieAt, fastOpenOption, withOption, readFrom, readOptions, optionsOf, cookieBytes}
 use Rattle.segment.specs.Checksum.{onesSum, complement, pseudoHeader, segmentSum, checksumRight}
-use Rattle.segment.specs.Write.{padding, mssBytes, fastOpenBytes, optionBytes, headerBytes, segmentWith, segmentBytes, isOptionCookie, optionsFor, lengthFor, canWrite, written}
+use Rattle.segment.specs.Write.{padding, mssBytes, fastOpenBytes, optionBytes, headerBytes, segmentWith, segmentBytes, optionAllowed, optionsFor, lengthFor, canWrite, written}
 use Rattle.segment.specs.declared.header.Header.{Header}
 use Rattle.segment.specs.declared.header.Shape.the-variants.{WellFormed}
 use Rattle.segment.specs.declared.options.Mss.the-variants.{Given}
@@ -25,7 +25,7 @@ use Rattle.segment.proofs.Folding.{sum-with-complement}
 use Rattle.segment.proofs.ByteLists.{Bytes, bytes-append}
 use Rattle.segment.proofs.Family.{family, pseudo-even, pseudo-bytes}
 use Rattle.segment.proofs.Writes.{options-plain, options-fast}
-use Rattle.segment.proofs.Written.{Writable, writable, option-cookie, options-most, with-length}
+use Rattle.segment.proofs.Written.{Writable, writable, allowed-cookie, options-most, with-length}
 
 -- A number written and read is the number, if it fits its bytes.
 pub back16 : (x : ℕ) → x < 65536 → word (x / 256 % 256) (x % 256) ≡ x
@@ -81,17 +81,17 @@ with-fast-open mss cookie h =
     e₁ ∙ e₂ ∙ e₃ ∙ rw (back16 mss h)
 
 -- there it counts, if an option may have such a cookie
-counted : (mss : ℕ) (cookie : List ℕ) → isOptionCookie (length cookie) ≡ true → fastOpenOption (optionBytes mss true cookie) 4 (length cookie + 2) ≡ fastOpenFor true cookie
+counted : (mss : ℕ) (cookie : List ℕ) → optionAllowed true (length cookie) ≡ true → fastOpenOption (optionBytes mss true cookie) 4 (length cookie + 2) ≡ fastOpenFor true cookie
 unfolding fastOpenOption cookieAt optionBytes
 counted mss [] e = refl
 counted mss (b ∷ rest) e =
     let n = suc (length rest) in
     let m : n + 2 - 2 ≡ n = omega arith in
     let z : eqb n 0 ≡ false = ne-eqb n 0 (λ q. omega arith) in
-    rw (m, z, option-cookie (length rest) e)
+    rw (m, z, allowed-cookie (length rest) e)
 
 -- the law: the reader finds in a written option area just what was put there
-pub options-back : (mss : ℕ) (fast : Bool) (cookie : List ℕ) → mss < 65536 → not fast || isOptionCookie (length cookie) ≡ true
+pub options-back : (mss : ℕ) (fast : Bool) (cookie : List ℕ) → mss < 65536 → optionAllowed fast (length cookie) ≡ true
     → readOptions (optionBytes mss fast cookie) ≡ foundFor mss fast cookie
 options-back mss false cookie h e = without-fast-open mss cookie h
 options-back mss true cookie h e = with-fast-open mss cookie h ∙ ap (λ (f : FastOpen). record { mss = Given mss; fast = f }) (counted mss cookie e)
@@ -197,7 +197,7 @@ module _ (src dst : List ℕ) (f : Outgoing) (cookie payload : List ℕ) (room :
 
   before-bytes : f .flags < 256 → Bytes before
   unfolding before
-  before-bytes h = omega (arith, options-most (f .mss) (f .fast) cookie (w .sized))
+  before-bytes h = omega (arith, options-most (f .mss) (f .fast) cookie (w .options))
 
   -- the sum over a segment with a checksum, the field set apart
   sum-apart : (check : ℕ) → segmentSum src dst (segmentWith f check (optionsFor f cookie) payload)
@@ -220,11 +220,11 @@ module _ (src dst : List ℕ) (f : Outgoing) (cookie payload : List ℕ) (room :
       ∙ ap (λ (x : ℕ). onesSum 0 ((p ++ before) ++ (be16 (complement x) ++ (0 ∷ 0 ∷ (o ++ payload))))) (sum-apart 0)
       ∙ sum-with-complement (p ++ before) (0 ∷ 0 ∷ (o ++ payload)) v
       (bytes-append p before (pseudo-bytes src dst n bs bd) (before-bytes hf))
-      (omega arith, (omega arith, bytes-append o payload (options-bytes (f .mss) (f .fast) cookie (options-most (f .mss) (f .fast) cookie (w .sized)) bc) bp))
+      (omega arith, (omega arith, bytes-append o payload (options-bytes (f .mss) (f .fast) cookie (options-most (f .mss) (f .fast) cookie (w .options)) bc) bp))
 
 -- its options count as they were put there, if it has the SYN flag
 options-counted : (f : Outgoing) (cookie seg : List ℕ) → byteAt seg 13 ≡ f .flags → optionArea seg ≡ optionsFor f cookie
-    → f .mss < 65536 → not (f .fast) || isOptionCookie (length cookie) ≡ true → has (f .flags) SYN ≡ true → optionsOf seg ≡ foundFor (f .mss) (f .fast) cookie
+    → f .mss < 65536 → optionAllowed (f .fast) (length cookie) ≡ true → has (f .flags) SYN ≡ true → optionsOf seg ≡ foundFor (f .mss) (f .fast) cookie
 unfolding optionsOf
 options-counted f cookie seg flags area h s e = rw (flags, e, area) (options-back (f .mss) (f .fast) cookie h s)
 
@@ -248,7 +248,7 @@ read-back src dst f cookie payload room can syn h bs bd bc bp =
     let e : written src dst f cookie payload room ≡ seg = rw can in
     let flags = flags-back f check o payload in
     let area = area-back src dst f cookie payload room w check in
-    let options = options-counted f cookie seg flags area (h .mss) (w .sized) syn in
+    let options = options-counted f cookie seg flags area (h .mss) (w .options) syn in
     subst (ReadBack src dst f cookie payload) (sym e)
     (record {
       shape = rw (well-formed src dst f cookie payload room w check, fields-back f check o payload h);

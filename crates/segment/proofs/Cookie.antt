@@ -44,9 +44,9 @@ cookie-length n e =
     let b = and-true (leb n 16) (eqb (n % 2) 0) (a .1) in
     record { least = leb-true 4 n (a .0); most = leb-true n 16 (b .0); even = eqb-true (n % 2) 0 (b .1) }
 
-pub length-cookie : (n : ℕ) → CookieLength n → isCookieLength n ≡ true
+pub cookie-length-back : (n : ℕ) → CookieLength n → isCookieLength n ≡ true
 unfolding isCookieLength
-length-cookie n c = rw (le-leb 4 n (c .least), le-leb n 16 (c .most), eq-eqb (n % 2) 0 (c .even))
+cookie-length-back n c = rw (le-leb 4 n (c .least), le-leb n 16 (c .most), eq-eqb (n % 2) 0 (c .even))
 
 option-inside : (n : ℕ) (area : List ℕ) (i len : ℕ) → i + len ≤ n → 2 ≤ len → AllInside n (fastOpenOption area i len)
 unfolding fastOpenOption cookieAt

@@ -1,7 +1,7 @@
 -- The answer and the opening, written by one end and read by the other. Assumes nothing.
 use Prim.Native.Nat.{ℕ, _+_, _^_, _<_, _≤_}
 use mathlib.Core.Path.{_≡_, refl, _∙_}
-use mathlib.Core.Bool.{Bool, true, false, not, _||_}
+use mathlib.Core.Bool.{Bool, true, false}
 use mathlib.Core.List.{List, []}
 use native.Mathlib.Omega.{arith}
 use lib.ListN.{length}
@@ -10,13 +10,13 @@ use Rattle.segment.specs.Header.{SYN, ACK, has, kindOf, synAck}
 use Rattle.segment.specs.Options.{isCookieLength}
 use Rattle.segment.specs.Checksum.{oneFamily}
 use Rattle.segment.specs.Sequence.{nextAfter, difference, acknowledged}
-use Rattle.segment.specs.Write.{isOptionCookie, optionBytes, optionsFor, lengthFor, canWrite, written, answerFields, answerBytes, openingFields, openingBytes}
+use Rattle.segment.specs.Write.{optionAllowed, optionBytes, optionsFor, lengthFor, canWrite, written, answerFields, answerBytes, openingFields, openingBytes}
 use Rattle.segment.specs.declared.header.Kind.the-variants.{Syn}
 use Rattle.segment.specs.declared.write.Answer.{Answer}
 use Rattle.segment.specs.declared.write.Opening.{Opening}
 use Rattle.segment.specs.declared.write.Outgoing.{Outgoing}
 use Rattle.segment.proofs.ByteLists.{Bytes}
-use Rattle.segment.proofs.Cookie.{Inside, length-cookie}
+use Rattle.segment.proofs.Cookie.{Inside, cookie-length-back}
 use Rattle.segment.proofs.Writes.{options-plain, options-fast}
 use Rattle.segment.proofs.Written.{options-most, segment-length}
 use Rattle.segment.proofs.Agreement.{Fits, ReadBack, read-back}
@@ -24,26 +24,32 @@ use Rattle.segment.proofs.Agreement.{Fits, ReadBack, read-back}
 -- Where there is room
 
 can-write : (src dst : List ℕ) (f : Outgoing) (cookie payload : List ℕ) (room : ℕ) → oneFamily src dst ≡ true
-    → not (f .fast) || isOptionCookie (length cookie) ≡ true → lengthFor f cookie payload ≤ 1520 → lengthFor f cookie payload ≤ room
+    → optionAllowed (f .fast) (length cookie) ≡ true → lengthFor f cookie payload ≤ 1520 → lengthFor f cookie payload ≤ room
     → canWrite src dst f cookie payload room ≡ true
 unfolding canWrite
 can-write src dst f cookie payload room e s h r = rw (e, s, le-leb (lengthFor f cookie payload) 1520 h, le-leb (lengthFor f cookie payload) room r)
 
--- an option may have no cookie, one that was found in an area, and one of eight bytes
-pub option-empty : isOptionCookie 0 ≡ true
-unfolding isOptionCookie
-option-empty = refl
+-- the options that a segment may have: no Fast Open option, a request, a cookie that was found in an area, and one of eight bytes
+pub allowed-none : (n : ℕ) → optionAllowed false n ≡ true
+unfolding optionAllowed
+allowed-none n = refl
 
-pub option-found : (n at len : ℕ) → Inside n at len → isOptionCookie len ≡ true
-unfolding isOptionCookie
-option-found n at len h =
+pub allowed-request : (fast : Bool) → optionAllowed fast 0 ≡ true
+unfolding optionAllowed
+allowed-request false = refl
+allowed-request true = refl
+
+pub allowed-found : (fast : Bool) (n at len : ℕ) → Inside n at len → optionAllowed fast len ≡ true
+unfolding optionAllowed
+allowed-found false n at len h = refl
+allowed-found true n at len h =
     let c = h .size in
-    rw (ne-eqb len 0 (λ e. omega arith), length-cookie len c)
+    rw (ne-eqb len 0 (λ e. omega arith), cookie-length-back len c)
 
-pub option-eight : (fast : Bool) (n : ℕ) → n ≡ 8 → not fast || isOptionCookie n ≡ true
-unfolding isOptionCookie isCookieLength
-option-eight false n e = refl
-option-eight true n e = rw e
+pub allowed-eight : (fast : Bool) (n : ℕ) → n ≡ 8 → optionAllowed fast n ≡ true
+unfolding optionAllowed isCookieLength
+allowed-eight false n e = refl
+allowed-eight true n e = rw e
 
 -- an answer has 24 bytes without a cookie and 36 with a fresh one
 abbrev pub answerLength : Bool → ℕ
@@ -67,7 +73,7 @@ pub answer-can : (src dst : List ℕ) (a : Answer) (cookie : List ℕ) (room : �
 answer-can src dst a cookie room e l r =
     let n = answer-length a cookie l in
     let m = answer-most (a .fresh) in
-    can-write src dst (answerFields a) cookie [] room e (option-eight (a .fresh) (length cookie) l) (omega arith) (omega arith)
+    can-write src dst (answerFields a) cookie [] room e (allowed-eight (a .fresh) (length cookie) l) (omega arith) (omega arith)
 
 -- and it has 24 or 36 of them
 pub answer-bytes : (src dst : List ℕ) (a : Answer) (cookie : List ℕ) (room : ℕ) → oneFamily src dst ≡ true → length cookie ≡ 8 → 36 ≤ room
@@ -78,7 +84,7 @@ answer-bytes src dst a cookie room e l r =
 
 -- 1,504 are enough for any opening with a payload of up to 1,460 bytes
 pub opening-can : (src dst : List ℕ) (o : Opening) (cookie payload : List ℕ) (room : ℕ) → oneFamily src dst ≡ true
-    → not (o .fast) || isOptionCookie (length cookie) ≡ true → length payload ≤ 1460 → 1504 ≤ room
+    → optionAllowed (o .fast) (length cookie) ≡ true → length payload ≤ 1460 → 1504 ≤ room
     → canWrite src dst (openingFields o) cookie payload room ≡ true
 opening-can src dst o cookie payload room e s p r =
     let m = options-most (o .mss) (o .fast) cookie s in

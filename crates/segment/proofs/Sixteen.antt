@@ -10,7 +10,7 @@ use Rattle.segment.specs.Bytes.{word}
 use Rattle.segment.specs.Sequence.{nextAfter, difference, inWindow}
 use Rattle.segment.specs.Options.{nothing, mssOption, isCookieLength, cookieAt, fastOpenOption, withOption, readFrom, readOptions, cookieBytes}
 use Rattle.segment.specs.Checksum.{onesAdd, onesSum, pseudoHeader, segmentSum}
-use Rattle.segment.specs.Write.{optionBytes, headerBytes, segmentWith, segmentBytes, canWrite, written, answerBytes}
+use Rattle.segment.specs.Write.{optionBytes, headerBytes, segmentWith, segmentBytes, optionAllowed, canWrite, written, answerBytes}
 use Rattle.segment.specs.declared.options.Mss.the-variants.{NotGiven, Given}
 use Rattle.segment.specs.declared.options.FastOpen.{FastOpen}
 use Rattle.segment.specs.declared.options.FastOpen.the-variants.{Absent, Request, Cookie}
@@ -98,5 +98,5 @@ pub row16 : (cookie : List ℕ) (room : ℕ) → 24 ≤ room
     (record { source = 443; dest = 40000; iss = 1000; irs = 4294967295; accepted = 0; mss = 1460; fresh = false }) cookie room
     ≡ 0x01 ∷ 0xBB ∷ 0x9C ∷ 0x40 ∷ 0x00 ∷ 0x00 ∷ 0x03 ∷ 0xE8 ∷ 0x00 ∷ 0x00 ∷ 0x00 ∷ 0x00 ∷ 0x60 ∷ 0x12 ∷ 0xFF ∷ 0xFF
     ∷ 0x72 ∷ 0x2F ∷ 0x00 ∷ 0x00 ∷ 0x02 ∷ 0x04 ∷ 0x05 ∷ 0xB4 ∷ []
-unfolding answerBytes written canWrite nextAfter segmentBytes segmentWith segmentSum headerBytes pseudoHeader optionBytes onesSum onesAdd
+unfolding answerBytes written canWrite optionAllowed nextAfter segmentBytes segmentWith segmentSum headerBytes pseudoHeader optionBytes onesSum onesAdd
 row16 cookie room h = rw (le-leb 24 room h)

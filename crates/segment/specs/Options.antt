@@ -25,7 +25,7 @@ isCookieLength n = leb 4 n && (leb n 16 && eqb (n % 2) 0)
 unfoldable pub cookieAt : ℕ → ℕ → FastOpen
 cookieAt at n = cond (eqb n 0) Request (cond (isCookieLength n) (Cookie at n) Absent)
 
--- kind 34 has its cookie after two bytes: it counts with length 2, or an even length of 6 to 18
+-- kind 34, of at least 2 bytes, has its cookie after two of them: it counts with length 2, or an even length of 6 to 18
 unfoldable pub fastOpenOption : List ℕ → ℕ → ℕ → FastOpen
 fastOpenOption area i len = cond (eqb (byteAt area i) 34) (cookieAt (i + 2) (len - 2)) Absent
 

@@ -22,9 +22,9 @@ mssBytes mss = 2 ∷ 4 ∷ be16 mss
 abbrev pub fastOpenBytes : List ℕ → List ℕ
 fastOpenBytes cookie = 34 ∷ (length cookie + 2) ∷ cookie
 
--- how many bytes of cookie an option may have: none (a request), or a cookie's
-unfoldable pub isOptionCookie : ℕ → Bool
-isOptionCookie n = eqb n 0 || isCookieLength n
+-- whether a segment may have these options: a Fast Open option has no cookie (a request) or one of a cookie's length
+unfoldable pub optionAllowed : Bool → ℕ → Bool
+optionAllowed fast n = not fast || (eqb n 0 || isCookieLength n)
 
 -- how many bytes of kind 1 follow n bytes of options, up to a multiple of four
 abbrev pub padding : ℕ → ℕ
@@ -61,22 +61,13 @@ optionsFor f cookie = optionBytes (f .mss) (f .fast) cookie
 abbrev pub lengthFor : Outgoing → List ℕ → List ℕ → ℕ
 lengthFor f cookie payload = 20 + length (optionsFor f cookie) + length payload
 
--- A segment is written where its addresses are of one family, an option may have its cookie if it is to have the option, it has no more
--- than the 1,520 bytes that are read, and the output has room for it.
+-- A segment is written where its addresses are of one family, it may have its options, it has no more than the 1,520 bytes that are
+-- read, and the output has room for it.
 unfoldable pub canWrite : List ℕ → List ℕ → Outgoing → List ℕ → List ℕ → ℕ → Bool
 canWrite src dst f cookie payload room =
     oneFamily src dst
-    && ((not (f .fast) || isOptionCookie (length cookie))
+    && (optionAllowed (f .fast) (length cookie)
     && (leb (lengthFor f cookie payload) 1520 && leb (lengthFor f cookie payload) room))
-
--- The same by lengths, for the code's private functions: the length of the options with a cookie of n bytes, 0 where no option may have
--- it, and the length of a segment that can be written, else 0.
-abbrev pub optionLength : Bool → ℕ → ℕ
-optionLength fast n = cond (not fast) 4 (cond (isOptionCookie n) (4 + (n + 5) / 4 * 4) 0)
-
-unfoldable pub writableLength : Bool → ℕ → ℕ → ℕ → ℕ
-writableLength family options payload room =
-    cond (family && (not (eqb options 0) && (leb (20 + options + payload) 1520 && leb (20 + options + payload) room))) (20 + options + payload) 0
 
 -- the bytes that are written to an output with so much room; none where the segment is not written
 unfoldable pub written : List ℕ → List ℕ → Outgoing → List ℕ → List ℕ → ℕ → List ℕ

@@ -5,7 +5,7 @@ ghost use mathlib.Core.Path.{_≡_};
 ghost use Prim.Native.Nat.{_≤_};
 ghost use lib.ListN.{length};
 ghost use Rattle.segment.specs.Bytes.{byteAt};
-ghost use Rattle.segment.specs.Header.{malformed, fieldsOf, shapeOf, optionArea, payloadOf, SYN, has, kindOf, synAck};
+ghost use Rattle.segment.specs.Header.{headerLength, malformed, fieldsOf, shapeOf, optionArea, payloadOf, SYN, has, kindOf, synAck};
 
 // The fields of a header that are used. The offset is its length in 32-bit words.
 pub struct Header {
@@ -74,6 +74,14 @@ pub fn read_header(seg: &[u8]) -> Shape
     Shape::WellFormed(fields(seg))
 }
 
+// The length in bytes of a header whose offset is there.
+fn header_length(seg: &[u8]) -> usize
+    requires { ⌜ 20 ≤ length (now seg) ⌝ }
+    ensures { λ r. ⌜ r ≡ headerLength (now (seg .entry)) ⌝ }
+{
+    4 * ((seg[12] / 16) as usize)
+}
+
 // The option area, as a part of the segment: from byte 20 to the header's end, at most 40 bytes; empty where the segment is malformed.
 pub fn option_area(seg: &[u8]) -> &[u8]
     ensures { λ r. ⌜ now r ≡ optionArea (now (seg .entry)) ⌝ }
@@ -81,7 +89,7 @@ pub fn option_area(seg: &[u8]) -> &[u8]
     if is_malformed(seg) {
         return &seg[..0];
     }
-    let end = 4 * ((seg[12] / 16) as usize);
+    let end = header_length(seg);
     &seg[20..end]
 }
 
@@ -92,7 +100,7 @@ pub fn payload(seg: &[u8]) -> &[u8]
     if is_malformed(seg) {
         return &seg[..0];
     }
-    let end = 4 * ((seg[12] / 16) as usize);
+    let end = header_length(seg);
     &seg[end..]
 }
 

@@ -10,12 +10,12 @@ use crate::header::ACK;
 use crate::header::SYN;
 use crate::sequence::next_after;
 ghost use mathlib.Core.Path.{_≡_};
-ghost use mathlib.Core.Bool.{true};
+ghost use mathlib.Core.Bool.{true, cond};
 ghost use mathlib.Core.List.{_++_};
 ghost use Prim.Native.Nat.{_+_, _-_, _≤_, _<_};
 ghost use lib.ListN.{length, take, drop, replicate};
 ghost use Rattle.segment.specs.Checksum.{onesSum, complement, oneFamily, pseudoHeader};
-ghost use Rattle.segment.specs.Write.{padding, optionBytes, headerBytes, optionsFor, optionLength, writableLength, written, overwrite, answerBytes, openingBytes};
+ghost use Rattle.segment.specs.Write.{padding, optionBytes, headerBytes, optionsFor, lengthFor, optionAllowed, canWrite, written, overwrite, answerBytes, openingBytes};
 
 // What a segment is to say, besides its cookie and its data. `fast`: with a Fast Open option.
 pub(crate) struct Outgoing {
@@ -141,13 +141,14 @@ fn put_header(out: &mut [u8], src: &[u8], dst: &[u8], f: Outgoing, offset: u8, n
     bytes::copy(&with_checksum, out);
 }
 
-// The length of the options with a cookie of n bytes, or 0 where no option may have it.
-fn option_length(fast: bool, n: usize) -> usize
-    ensures { λ r. ⌜ (r ≡ optionLength fast n) × (r ≤ 24) ⌝ }
+// The length of the options, or 0 where a segment may not have them.
+fn option_length(f: Outgoing, cookie: &[u8]) -> usize
+    ensures { λ r. ⌜ (r ≡ cond (optionAllowed (f .fast) (length (now (cookie .entry)))) (length (optionsFor f (now (cookie .entry)))) 0) × (r ≤ 24) ⌝ }
 {
-    if !fast {
+    if !f.fast {
         return 4;
     }
+    let n = cookie.len();
     if n == 0 {
         return 8;
     }
@@ -163,21 +164,28 @@ fn option_length(fast: bool, n: usize) -> usize
     4 + (n + 5) / 4 * 4
 }
 
-// The length of a segment that can be written, else 0.
-fn writable_length(family: bool, options: usize, payload: usize, room: usize) -> usize
-    requires { ⌜ options ≤ 24 ⌝ }
-    ensures { λ r. ⌜ r ≡ writableLength family options payload room ⌝ }
+// The length of a segment that can be written to an output with so much room, else 0.
+fn writable_length(
+    src: &[u8],
+    dst: &[u8],
+    f: Outgoing,
+    cookie: &[u8],
+    payload: &[u8],
+    room: usize,
+) -> usize
+    ensures { λ r. ⌜ r ≡ cond (canWrite (now (src .entry)) (now (dst .entry)) f (now (cookie .entry)) (now (payload .entry)) room) (lengthFor f (now (cookie .entry)) (now (payload .entry))) 0 ⌝ }
 {
-    if !family {
+    if !is_one_family(src, dst) {
         return 0;
     }
-    if options == 0 {
+    let m = option_length(f, cookie);
+    if m == 0 {
         return 0;
     }
-    if 1500 - options < payload {
+    if 1500 - m < payload.len() {
         return 0;
     }
-    let n = 20 + options + payload;
+    let n = 20 + m + payload.len();
     if room < n {
         return 0;
     }
@@ -196,12 +204,11 @@ fn write_segment(
     ensures { λ r. ⌜ r ≡ length (written (now (src .entry)) (now (dst .entry)) f (now (cookie .entry)) (now (payload .entry)) (length (now (out .entry)))) ⌝ }
     ensures { λ _. ⌜ now (out .exit) ≡ overwrite (written (now (src .entry)) (now (dst .entry)) f (now (cookie .entry)) (now (payload .entry)) (length (now (out .entry)))) (now (out .entry)) ⌝ }
 {
-    let m = option_length(f.fast, cookie.len());
-    let n = writable_length(is_one_family(src, dst), m, payload.len(), out.len());
+    let n = writable_length(src, dst, f, cookie, payload, out.len());
     if n == 0 {
         return 0;
     }
-    put_body(out, f, cookie, payload);
+    let m = put_body(out, f, cookie, payload);
     put_header(out, src, dst, f, ((20 + m) / 4) as u8, n);
     n
 }

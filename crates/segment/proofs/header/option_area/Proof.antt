@@ -18,14 +18,8 @@ returns : tie.Need-returns
 unfolding optionArea
 returns c = simp (sym (c .before .before .is-malformed .ensures) ∙ c .before .if1 .taken)
 
-shared-slice-read-end : tie.Need-shared-slice-read-end
-shared-slice-read-end c = omega (arith, formed _ (sym (c .before .before .is-malformed .ensures) ∙ c .before .if1 .left))
-
-cast-end : tie.Need-cast-end
-cast-end c = omega (arith, c .shared-slice-known2 .given 12)
-
-mul-end : tie.Need-mul-end
-mul-end c = omega (arith, c .shared-slice-known2 .given 12)
+header-length-requires : tie.Need-header-length-requires
+header-length-requires c κs = omega (arith, formed _ (sym (c .before .is-malformed .ensures) ∙ c .if1 .left))
 
 sub-result : tie.Need-sub-result
 sub-result c = omega (arith, formed _ (sym (c .before .before .is-malformed .ensures) ∙ c .before .if1 .left))
@@ -38,7 +32,7 @@ part-result-end c = omega (arith, formed _ (sym (c .before .before .is-malformed
 
 returns-2 : tie.Need-returns-2
 unfolding optionArea
-returns-2 c = simp (sym (c .before .before .before .is-malformed .ensures) ∙ c .before .before .if1 .left)
+returns-2 c = simp (sym (c .before .before .before .is-malformed .ensures) ∙ c .before .before .if1 .left, c .before .header-length .ensures)
 
 pub option-area-spec : {M : Type 1} → statement M
 option-area-spec =
@@ -47,9 +41,7 @@ option-area-spec =
     is-malformed-requires
     slice-aggregate-result
     returns
-    shared-slice-read-end
-    cast-end
-    mul-end
+    header-length-requires
     sub-result
     part-result-start
     part-result-end

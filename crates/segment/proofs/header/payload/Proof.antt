@@ -1,12 +1,11 @@
 -- `segment::header::payload` meets its contract.
 -- Assumes nothing.
-use Rattle.segment.specs.Header.{headerLength}
 use Prim.Native.Nat.{_-_}
 use mathlib.Core.Path.{sym, _∙_}
 use native.Mathlib.Omega.{arith}
 use lib.ListN.{drop, length, length-drop}
 use lib.Seq.{take-all}
-use Rattle.segment.specs.Header.{payloadOf}
+use Rattle.segment.specs.Header.{headerLength, payloadOf}
 use Rattle.segment.proofs.Formed.{formed}
 use borrow.Author.Needs.{needs}
 use Rattle.segment.proofs.header.payload.Statement.{statement}
@@ -22,14 +21,8 @@ returns : tie.Need-returns
 unfolding payloadOf
 returns c = simp (sym (c .before .before .is-malformed .ensures) ∙ c .before .if1 .taken)
 
-shared-slice-read-end : tie.Need-shared-slice-read-end
-shared-slice-read-end c = omega (arith, formed _ (sym (c .before .before .is-malformed .ensures) ∙ c .before .if1 .left))
-
-cast-end : tie.Need-cast-end
-cast-end c = omega (arith, c .shared-slice-known2 .given 12)
-
-mul-end : tie.Need-mul-end
-mul-end c = omega (arith, c .shared-slice-known2 .given 12)
+header-length-requires : tie.Need-header-length-requires
+header-length-requires c κs = omega (arith, formed _ (sym (c .before .is-malformed .ensures) ∙ c .if1 .left))
 
 sub-result : tie.Need-sub-result
 sub-result c = omega (arith, formed _ (sym (c .before .before .is-malformed .ensures) ∙ c .before .if1 .left))
@@ -45,7 +38,7 @@ unfolding payloadOf
 returns-2 c =
     let s = c .before .before .before .before .before .args .seg .now in
     let h = headerLength s in
-    simp (sym (c .before .before .before .is-malformed .ensures) ∙ c .before .before .if1 .left) (take-all (length s - h) (drop h s) (omega (arith, length-drop h s)))
+    simp (sym (c .before .before .before .is-malformed .ensures) ∙ c .before .before .if1 .left, c .before .header-length .ensures) (take-all (length s - h) (drop h s) (omega (arith, length-drop h s)))
 
 pub payload-spec : {M : Type 1} → statement M
 payload-spec =
@@ -54,9 +47,7 @@ payload-spec =
     is-malformed-requires
     slice-aggregate-result
     returns
-    shared-slice-read-end
-    cast-end
-    mul-end
+    header-length-requires
     sub-result
     part-result-start
     part-result-end

@@ -1,30 +1,43 @@
--- `segment::write::writable_length` meets its contract.
+-- `segment::write::writable_length` meets its contract: one case for each test of `canWrite`.
 -- Assumes nothing.
 use native.Mathlib.Omega.{arith}
-use Prim.Native.Nat.{_+_, _≤_, _<_}
-use borrow.Author.Tests.{eq-eqb, ne-eqb, le-leb, lt-leb, not-true, not-false}
-use Rattle.segment.specs.Write.{writableLength}
+use Prim.Native.Nat.{_≤_, _<_}
+use mathlib.Core.Path.{sym, _∙_}
+use borrow.Author.Tests.{le-leb, lt-leb, not-true, not-false}
+use Rattle.segment.specs.Write.{lengthFor, canWrite}
+use Rattle.segment.proofs.Written.{not-allowed, is-allowed}
 use borrow.Author.Needs.{needs}
 use Rattle.segment.proofs.write.writable_length.Statement.{statement}
 use Rattle.segment.proofs.write.writable_length.Tie as tie
 
+is-one-family-requires : tie.Need-is-one-family-requires
+is-one-family-requires c κs = search needs
+
 returns : tie.Need-returns
-unfolding writableLength
-returns c = simp (not-true (c .before .args .family) (c .if1 .taken))
+unfolding canWrite
+returns c = rw (sym (c .before .is-one-family .ensures) ∙ not-true _ (c .if1 .taken))
+
+option-length-requires : tie.Need-option-length-requires
+option-length-requires c κs = search needs
 
 returns-2 : tie.Need-returns-2
-unfolding writableLength
-returns-2 c = simp (not-false (c .before .before .args .family) (c .before .if1 .left), eq-eqb _ _ (c .if2 .taken))
+unfolding canWrite
+returns-2 c =
+    let a = c .before .before .before .before .before .before .before .before .args in
+    let f = sym (c .before .before .before .is-one-family .ensures) ∙ not-false _ (c .before .before .if1 .left) in
+    rw (f, not-allowed (a .f .mss) (a .f .fast) (a .cookie .now) _ (c .before .option-length .ensures .0) (c .if2 .taken))
 
 sub-if3 : tie.Need-sub-if3
 sub-if3 c = search needs
 
 returns-3 : tie.Need-returns-3
-unfolding writableLength
+unfolding canWrite
 returns-3 c =
-    let a = c .before .before .before .args in
-    let h : 1520 < 20 + a .options + a .payload = omega arith in
-    simp (not-false (a .family) (c .before .before .if1 .left), ne-eqb _ _ (c .before .if2 .left), lt-leb _ _ h)
+    let a = c .before .before .before .before .before .before .before .before .before .args in
+    let f = sym (c .before .before .before .before .is-one-family .ensures) ∙ not-false _ (c .before .before .before .if1 .left) in
+    let k = is-allowed (a .f .mss) (a .f .fast) (a .cookie .now) _ (c .before .before .option-length .ensures .0) (c .before .if2 .left) in
+    let h : 1520 < lengthFor (a .f) (a .cookie .now) (a .payload .now) = omega arith in
+    rw (f, k .0, lt-leb _ _ h)
 
 add-n : tie.Need-add-n
 add-n c = search needs
@@ -33,19 +46,36 @@ add-n-2 : tie.Need-add-n-2
 add-n-2 c = search needs
 
 returns-4 : tie.Need-returns-4
-unfolding writableLength
+unfolding canWrite
 returns-4 c =
-    let a = c .before .before .before .before .args in
-    let h : 20 + a .options + a .payload ≤ 1520 = omega arith in
-    simp (not-false (a .family) (c .before .before .before .if1 .left), ne-eqb _ _ (c .before .before .if2 .left), le-leb _ _ h, lt-leb _ _ (c .if4 .taken))
+    let a = c .before .before .before .before .before .before .before .before .before .before .args in
+    let f = sym (c .before .before .before .before .before .is-one-family .ensures) ∙ not-false _ (c .before .before .before .before .if1 .left) in
+    let k = is-allowed (a .f .mss) (a .f .fast) (a .cookie .now) _ (c .before .before .before .option-length .ensures .0) (c .before .before .if2 .left) in
+    let h : lengthFor (a .f) (a .cookie .now) (a .payload .now) ≤ 1520 = omega arith in
+    let l : a .room < lengthFor (a .f) (a .cookie .now) (a .payload .now) = omega arith in
+    rw (f, k .0, le-leb _ _ h, lt-leb _ _ l)
 
 returns-5 : tie.Need-returns-5
-unfolding writableLength
+unfolding canWrite
 returns-5 c =
-    let a = c .before .before .before .before .args in
-    let h : 20 + a .options + a .payload ≤ 1520 = omega arith in
-    simp (not-false (a .family) (c .before .before .before .if1 .left), ne-eqb _ _ (c .before .before .if2 .left), le-leb _ _ h, le-leb _ _ (c .if4 .left))
+    let a = c .before .before .before .before .before .before .before .before .before .before .args in
+    let f = sym (c .before .before .before .before .before .is-one-family .ensures) ∙ not-false _ (c .before .before .before .before .if1 .left) in
+    let k = is-allowed (a .f .mss) (a .f .fast) (a .cookie .now) _ (c .before .before .before .option-length .ensures .0) (c .before .before .if2 .left) in
+    let h : lengthFor (a .f) (a .cookie .now) (a .payload .now) ≤ 1520 = omega arith in
+    let l : lengthFor (a .f) (a .cookie .now) (a .payload .now) ≤ a .room = omega arith in
+    rw (f, k .0, le-leb _ _ h, le-leb _ _ l) (omega arith)
 
 pub writable-length-spec : {M : Type 1} → statement M
 writable-length-spec =
-    tie.close (tie.spec returns returns-2 sub-if3 returns-3 add-n add-n-2 returns-4 returns-5)
+    tie.close
+    (tie.spec
+    is-one-family-requires
+    returns
+    option-length-requires
+    returns-2
+    sub-if3
+    returns-3
+    add-n
+    add-n-2
+    returns-4
+    returns-5)

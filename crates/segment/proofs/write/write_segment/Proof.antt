@@ -1,30 +1,24 @@
--- `segment::write::write_segment` meets its contract: nothing where a test fails, else options and payload, then the header.
+-- `segment::write::write_segment` meets its contract: nothing where it cannot be written, else options and payload, then the header.
 -- Assumes nothing.
 use native.Mathlib.Omega.{arith}
 use lib.ListN.{length}
-use Rattle.segment.proofs.Written.{Allowed, refused, allowed, none-written, assembled}
+use Rattle.segment.proofs.Written.{Allowed, refused, allowed, none-written, all-written}
 use borrow.Author.Needs.{needs}
 use Rattle.segment.proofs.write.write_segment.Statement.{statement}
 use Rattle.segment.proofs.write.write_segment.Tie as tie
 
--- what is known where the tests have passed
-allowed-here : (c : tie.Else1) → Allowed (c .before .before .before .before .before .before .before .before .before .args .src .now) (c .before .before .before .before .before .before .before .before .before .args .dst .now) (c .before .before .before .before .before .before .before .before .before .args .f) (c .before .before .before .before .before .before .before .before .before .args .cookie .now) (c .before .before .before .before .before .before .before .before .before .args .payload .now) (length (c .before .before .before .before .before .before .before .before .before .args .out .now)) (c .before .before .before .option-length .result) (c .before .writable-length .result)
-allowed-here c = allowed _ _ (c .before .before .before .before .before .before .before .before .before .args .f) _ _ _ _ _ _ (c .before .before .before .option-length .ensures .0) (c .before .before .is-one-family .ensures) (c .before .writable-length .ensures) (c .if1 .left)
-
-option-length-requires : tie.Need-option-length-requires
-option-length-requires c κs = search needs
-
-is-one-family-requires : tie.Need-is-one-family-requires
-is-one-family-requires c κs = search needs
+-- what is known where the segment can be written
+allowed-here : (c : tie.Else1) → Allowed (c .before .before .before .before .before .before .before .args .src .now) (c .before .before .before .before .before .before .before .args .dst .now) (c .before .before .before .before .before .before .before .args .f) (c .before .before .before .before .before .before .before .args .cookie .now) (c .before .before .before .before .before .before .before .args .payload .now) (length (c .before .before .before .before .before .before .before .args .out .now)) (c .before .writable-length .result)
+allowed-here c = allowed _ _ (c .before .before .before .before .before .before .before .args .f) _ _ _ _ (c .before .writable-length .ensures) (c .if1 .left)
 
 writable-length-requires : tie.Need-writable-length-requires
 writable-length-requires c κs = search needs
 
 returns : tie.Need-returns
 returns c =
-    let a = c .before .before .before .before .before .before .before .before .before .args in
+    let a = c .before .before .before .before .before .before .before .args in
     none-written (a .src .now) (a .dst .now) (a .f) (a .cookie .now) (a .payload .now) (a .out .now)
-    (refused (a .src .now) (a .dst .now) (a .f) (a .cookie .now) (a .payload .now) _ _ _ _ (c .before .before .before .option-length .ensures .0) (c .before .before .is-one-family .ensures) (c .before .writable-length .ensures) (c .if1 .taken))
+    (refused (a .src .now) (a .dst .now) (a .f) (a .cookie .now) (a .payload .now) _ _ (c .before .writable-length .ensures) (c .if1 .taken))
 
 put-body-requires : tie.Need-put-body-requires
 put-body-requires c κs =
@@ -32,31 +26,29 @@ put-body-requires c κs =
     (omega (arith, g .area), g .facts .fits)
 
 add-put-header : tie.Need-add-put-header
-add-put-header c = search needs
+add-put-header c = omega (arith, allowed-here (c .before .before .before .before .before) .area, c .before .before .before .put-body .ensures .0)
 
 cast-put-header : tie.Need-cast-put-header
-cast-put-header c = search needs
+cast-put-header c = omega (arith, allowed-here (c .before .before .before .before .before) .area, c .before .before .before .put-body .ensures .0)
 
 put-header-requires : tie.Need-put-header-requires
 put-header-requires c κs =
     let g = allowed-here (c .before .before .before .before .before) in
-    (g .facts .one, (omega (arith, g .area, g .size), (omega (arith, g .whole), omega (arith, g .facts .fits, g .whole))))
+    (g .facts .one, (omega (arith, g .area, c .before .before .before .put-body .ensures .0), (omega (arith, g .whole), omega (arith, g .facts .fits, g .whole))))
 
 same-length : tie.Need-same-length
 same-length c = search needs
 
 returns-2 : tie.Need-returns-2
 returns-2 c =
-    let a = c .before .before .before .before .before .before .before .before .before .before .before .before .before .before .before .before .before .args in
+    let a = c .before .before .before .before .before .before .before .before .before .before .before .before .before .before .before .args in
     let b = c .before .before .before .before .before .before .put-body .ensures in
-    assembled (a .src .now) (a .dst .now) (a .f) (a .cookie .now) (a .payload .now) (a .out .now) _ _ _ _ _ (allowed-here (c .before .before .before .before .before .before .before .before)) (b .0) (b .1) (c .before .before .put-header .ensures)
+    all-written (a .src .now) (a .dst .now) (a .f) (a .cookie .now) (a .payload .now) (a .out .now) _ _ _ _ (allowed-here (c .before .before .before .before .before .before .before .before)) (b .0) (b .1) (c .before .before .put-header .ensures)
 
 pub write-segment-spec : {M : Type 1} → statement M
 write-segment-spec =
     tie.close
     (tie.spec
-    option-length-requires
-    is-one-family-requires
     writable-length-requires
     returns
     put-body-requires
