@@ -1,8 +1,9 @@
 -- The rounds of the cipher, as the code goes through them.
 -- Assumes nothing.
-use mathlib.Core.Path.{_≡_}
+use mathlib.Core.Path.{_≡_, refl}
 use Prim.Native.Nat.{ℕ, _+_}
 use native.Mathlib.Numerals.{add-one}
+use lib.ListN.{length}
 use Rattle.cipher.specs.Cipher.{Bytes, State, cipher, fromBlock, toBlock, rounds, addRoundKey, mixColumns, shiftRows, subBytes}
 
 round-more : (w : Bytes) (n : ℕ) (z : State) → rounds w (n + 1) z ≡ addRoundKey w (n + 1) (mixColumns (shiftRows (subBytes (rounds w n z))))
@@ -17,3 +18,8 @@ pub cipher-done : (w b : Bytes) (n : ℕ) {y : Bytes} {l z s r : State} → l �
     → r ≡ addRoundKey w 10 (shiftRows (subBytes s)) → y ≡ toBlock r → y ≡ cipher w b
 unfolding cipher
 cipher-done w b n h i j k p q = cc
+
+-- for the crates above: a block has 16 bytes
+pub block-length : (w b : Bytes) → length (cipher w b) ≡ 16
+unfolding cipher
+block-length w b = refl

@@ -82,6 +82,11 @@ unfolding answerBytes written
 answer-bytes src dst a cookie room e l r =
     rw (answer-can src dst a cookie room e l r) (segment-length src dst (answerFields a) (optionsFor (answerFields a) cookie) [] ∙ answer-length a cookie l)
 
+-- where no cookie goes with it, it is the same whatever cookie is at hand
+pub answer-without : (src dst : List ℕ) (a : Answer) (c d : List ℕ) (room : ℕ) → a .fresh ≡ false → answerBytes src dst a c room ≡ answerBytes src dst a d room
+unfolding answerBytes written canWrite optionAllowed optionBytes
+answer-without src dst a c d room e = rw e
+
 -- 1,504 are enough for any opening with a payload of up to 1,460 bytes
 pub opening-can : (src dst : List ℕ) (o : Opening) (cookie payload : List ℕ) (room : ℕ) → oneFamily src dst ≡ true
     → optionAllowed (o .fast) (length cookie) ≡ true → length payload ≤ 1460 → 1504 ≤ room

@@ -7,7 +7,7 @@ use native.Mathlib.Omega.{arith}
 use lib.ListN.{length, length-append}
 use lib.Dec.{eqb}
 use borrow.Author.Tests.{eqb-true}
-use Rattle.segment.specs.Checksum.{onesSum, oneFamily, pseudoTail, pseudoHeader, segmentSum}
+use Rattle.segment.specs.Checksum.{onesSum, oneFamily, pseudoTail, pseudoHeader, segmentSum, checksumRight}
 use Rattle.segment.proofs.Bools.{and-true}
 use Rattle.segment.proofs.Sums.{sum-append}
 use Rattle.segment.proofs.ByteLists.{Bytes, bytes-append}
@@ -31,6 +31,17 @@ family src dst e =
     either false h k a =
         let n = eqb-true (length src) 16 k in
         record { alike = a; even = ap (λ (x : ℕ). x % 2) n; short = omega arith }
+
+-- the other way round too
+pub family-back : (src dst : List ℕ) → oneFamily src dst ≡ true → oneFamily dst src ≡ true
+family-back src dst e =
+    let n = family src dst e .alike in
+    rw n (rw n at e)
+
+-- and so are those of a right checksum
+pub right-family : (src dst seg : List ℕ) → checksumRight src dst seg ≡ true → oneFamily src dst ≡ true
+unfolding checksumRight
+right-family src dst seg e = and-true (oneFamily src dst) (eqb (segmentSum src dst seg) 65535) e .0
 
 tail-even : (ipv4 : Bool) (n : ℕ) → length (pseudoTail ipv4 n) % 2 ≡ 0
 tail-even true n = refl

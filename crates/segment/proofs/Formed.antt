@@ -11,6 +11,7 @@ use borrow.Author.Tests.{ltb-false}
 use Rattle.segment.specs.Bytes.{byteAt}
 use Rattle.segment.specs.Header.{malformed, offsetOf, headerLength, fieldsOf, shapeOf, shapeCheck, optionArea, payloadOf}
 use Rattle.segment.specs.Refusal.{answered}
+use Rattle.segment.specs.declared.header.Header.{Header}
 use Rattle.segment.specs.declared.header.Shape.the-variants.{Malformed, WellFormed}
 use Rattle.segment.proofs.Bools.{or-false}
 
@@ -70,3 +71,20 @@ shape-number s = go (malformed s)
     go : (b : Bool) → answered (shapeCheck (cond b Malformed (WellFormed (fieldsOf s)))) ≡ cond b 1 0
     go true = refl
     go false = refl
+
+-- what a shape says of the segment
+pub ill-shaped : (s : List ℕ) → shapeOf s ≡ Malformed → malformed s ≡ true
+unfolding shapeOf
+ill-shaped s e = go (malformed s) e
+  where
+    go : (b : Bool) → cond b Malformed (WellFormed (fieldsOf s)) ≡ Malformed → b ≡ true
+    go true k = refl
+    go false k = absurd (let z : _≡_ {A = ℕ} 0 1 = cc in omega arith)
+
+pub well-shaped : (s : List ℕ) (h : Header) → shapeOf s ≡ WellFormed h → (malformed s ≡ false) × (h ≡ fieldsOf s)
+unfolding shapeOf
+well-shaped s h e = go (malformed s) e
+  where
+    go : (b : Bool) → cond b Malformed (WellFormed (fieldsOf s)) ≡ WellFormed h → (b ≡ false) × (h ≡ fieldsOf s)
+    go true k = absurd (let z : _≡_ {A = ℕ} 0 1 = cc in omega arith)
+    go false k = (refl, cc)

@@ -1,0 +1,118 @@
+-- What a Fast Open option comes to, and what a segment does: from what the functions on the way ensure. Assumes nothing.
+use Prim.Native.Nat.{ℕ, min}
+use mathlib.Core.Path.{_≡_, refl, sym, ap, _∙_, subst}
+use mathlib.Core.Bool.{Bool, true, false, cond, not, _&&_, _||_, false≢true}
+use mathlib.Core.List.{List}
+use lib.ListN.{length}
+use Rattle.segment.specs.Header.{optionArea, payloadOf}
+use Rattle.segment.specs.Options.{optionsOf}
+use Rattle.segment.specs.declared.header.Header.{Header}
+use Rattle.segment.specs.declared.options.Options.{Options}
+use Rattle.listener.specs.Lists.{sameBytes}
+use Rattle.listener.specs.Table.{newSlot}
+use Rattle.listener.specs.Cookie.{Carried, nothing, request, cookie, found, carriedBy, counts, cookieUnder, rightUnder, right, weighed}
+use Rattle.listener.specs.Step.{cookiesRun, isEarly, isFresh, newEvent, slotAfter, freshWith}
+use Rattle.listener.specs.declared.state.Keys.{Keys}
+use Rattle.listener.specs.declared.state.View.{View}
+use Rattle.listener.specs.declared.cookie.Offer.{Offer}
+use Rattle.listener.specs.declared.opening.Action.{Action}
+use Rattle.listener.specs.declared.answer.Event.{Event}
+use Rattle.listener.specs.declared.answer.Event.the-variants as events
+use Rattle.listener.specs.declared.table.Slot.{Slot}
+use Rattle.listener.specs.declared.table.Status.the-variants as statuses
+
+-- A cookie that was given: it is the present key's, or there is no other key, or it is compared with the previous key's.
+module _ (k : Keys) (b given : List ℕ) {f : List ℕ} (e : f ≡ cookieUnder (k .present) b) where
+  pub weighed-present : sameBytes given f ≡ true → _≡_ {A = Offer} (record { right = true; fresh = false; cookie = f }) (weighed k b given)
+  unfolding right rightUnder
+  weighed-present s = rw (e, (rw e at s))
+
+  pub weighed-alone : sameBytes given f ≡ false → k .rotated ≡ false → _≡_ {A = Offer} (record { right = false; fresh = true; cookie = f }) (weighed k b given)
+  unfolding right rightUnder
+  weighed-alone s r = rw (e, (rw e at s), r)
+
+  pub weighed-before : sameBytes given f ≡ false → k .rotated ≡ true → {g : List ℕ} {same : Bool} → g ≡ cookieUnder (k .previous) b → same ≡ sameBytes given g
+      → _≡_ {A = Offer} (record { right = same; fresh = true; cookie = f }) (weighed k b given)
+  unfolding right rightUnder
+  weighed-before s r p q = rw (e, (rw e at s), r, q, p)
+
+-- what an offer is to be, where cookies run or not
+abbrev pub Considered : Bool → Keys → List ℕ → Carried → Offer → Type 0
+Considered run k b o r =
+    (r .right ≡ run && right k b o)
+    × ((r .fresh ≡ run && (counts o && not (rightUnder (k .present) b o)))
+    × (r .fresh ≡ true → r .cookie ≡ cookieUnder (k .present) b))
+
+module _ (run : Bool) (k : Keys) (b : List ℕ) (r : Offer) where
+  none-fresh : r .fresh ≡ false → r .fresh ≡ true → r .cookie ≡ cookieUnder (k .present) b
+  none-fresh f t = absurd (false≢true (sym f ∙ t))
+
+  pub considered-off : (o : Carried) → run ≡ false → r .right ≡ false → r .fresh ≡ false → Considered run k b o r
+  considered-off o n x f = (rw (n, x), (rw (n, f), none-fresh f))
+
+  pub considered-nothing : r .right ≡ false → r .fresh ≡ false → Considered run k b nothing r
+  unfolding right rightUnder
+  considered-nothing x f = (x ∙ never run (k .rotated), (f ∙ fails run, none-fresh f))
+    where
+      fails : (a : Bool) → false ≡ a && false
+      fails true = refl
+      fails false = refl
+
+      never : (a c : Bool) → false ≡ a && (c && false)
+      never true true = refl
+      never true false = refl
+      never false c = refl
+
+  pub considered-request : run ≡ true → r .right ≡ false → r .fresh ≡ true → r .cookie ≡ cookieUnder (k .present) b → Considered run k b request r
+  unfolding right rightUnder
+  considered-request n x f c = (x ∙ rw n (never (k .rotated)), (rw (n, f), λ _. c))
+    where
+      never : (c : Bool) → false ≡ c && false
+      never true = refl
+      never false = refl
+
+  pub considered-cookie : (given : List ℕ) → run ≡ true → r ≡ weighed k b given → Considered run k b (cookie given) r
+  considered-cookie given n e = (rw (n, e), (rw (n, e), λ _. rw e))
+
+-- What a segment's action is to be, by its event
+abbrev pub Acts : View → ℕ → List ℕ → Header → ℕ → List ℕ → Event → Action → Type 0
+Acts v t b h iss seg e r =
+    (r .event ≡ e)
+    × ((r .slot ≡ slotAfter v t b h iss e)
+    × ((r .fresh ≡ freshWith v b seg e)
+    × (r .fresh ≡ true → r .cookie ≡ cookieUnder (v .keys .present) b)))
+
+module _ (v : View) (t : ℕ) (b : List ℕ) (h : Header) (iss : ℕ) (seg : List ℕ) where
+  pub acts-as : (d e : Event) (r : Action) → d ≡ e → Acts v t b h iss seg d r → Acts v t b h iss seg e r
+  acts-as d e r q a = subst (λ (x : Event). Acts v t b h iss seg x r) q a
+
+  -- an event without a fresh cookie
+  pub acts-quiet : (e : Event) (r : Action) → freshWith v b seg e ≡ false → r .event ≡ e → r .slot ≡ slotAfter v t b h iss e → r .fresh ≡ false
+      → Acts v t b h iss seg e r
+  acts-quiet e r q x s f = (x, (s, (f ∙ sym q, λ y. absurd (false≢true (sym f ∙ y)))))
+
+  -- the offer of a new opening
+  module _ (o : Offer) (options : Options) (area : List ℕ) (run : Bool)
+      (eo : options ≡ optionsOf seg) (ea : area ≡ optionArea seg) (er : run ≡ cookiesRun v) (c : Considered run (v .keys) b (found (options .fast) area) o) where
+    offer-right : o .right ≡ isEarly v b seg
+    unfolding isEarly carriedBy
+    offer-right = rw (sym eo, sym ea, sym er) (c .0)
+
+    offer-fresh : o .fresh ≡ isFresh v b seg
+    unfolding isFresh carriedBy
+    offer-fresh = rw (sym eo, sym ea, sym er) (c .1 .0)
+
+    pub opens-early : (n : ℕ) (s : Slot) → o .right ≡ true → n ≡ min (length (payloadOf seg)) (v .settings .room)
+        → s ≡ newSlot b (h .source) (h .seq) iss (statuses.FastOpen n)
+        → Acts v t b h iss seg (newEvent (isEarly v b seg) (min (length (payloadOf seg)) (v .settings .room)))
+        (record { event = events.FastOpen n; slot = s; fresh = o .fresh; cookie = o .cookie })
+    opens-early n s y m e =
+        let early : isEarly v b seg ≡ true = sym offer-right ∙ y in
+        rw (early, sym m) (refl, (e, (offer-fresh, c .1 .1)))
+
+    pub opens-regular : (s : Slot) → o .right ≡ false → s ≡ newSlot b (h .source) (h .seq) iss statuses.SynReceived
+        → Acts v t b h iss seg (newEvent (isEarly v b seg) (min (length (payloadOf seg)) (v .settings .room)))
+        (record { event = events.Regular; slot = s; fresh = o .fresh; cookie = o .cookie })
+    opens-regular s y e =
+        let plain : isEarly v b seg ≡ false = sym offer-right ∙ y in
+        rw plain (refl, (e, (offer-fresh, c .1 .1)))

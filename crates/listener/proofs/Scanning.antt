@@ -1,0 +1,108 @@
+-- One scan of the table finds what `scanOf` says. Assumes nothing.
+use Prim.Native.Nat.{ℕ, zero, suc, _+_, _≤_, _<_}
+use mathlib.Core.Path.{_≡_, refl, sym, ap, _∙_}
+use mathlib.Core.Bool.{Bool, true, false, cond, not}
+use mathlib.Core.List.{List, [], _∷_}
+use native.Mathlib.Omega.{arith}
+use native.Mathlib.Nat.{le-of-suc-le-suc, not-suc-le-zero}
+use native.Mathlib.Numerals.{add-one}
+use lib.Dec.{ltb}
+use lib.ListN.{length, drop, getD, drop-of-length-le}
+use lib.Seq.{drop-cons}
+use borrow.Author.Tests.{ltb-true, ltb-false, lt-ltb, le-ltb}
+use Rattle.listener.specs.Lists.{bit, tally, firstIndex}
+use Rattle.listener.specs.Table.{isLive, isPending, freeSlot, holds, scanOf}
+use Rattle.listener.specs.Scan.{earliest, counted, seenWith}
+use Rattle.listener.specs.declared.table.Slot.{Slot}
+use Rattle.listener.specs.declared.table.Scan.{Scan}
+
+-- an element that is there is the same whatever stands in for one that is not
+pub present : {A : Type 0} (xs : List A) (i : ℕ) (d e : A) → i < length xs → getD xs i d ≡ getD xs i e
+present [] i d e h = absurd (not-suc-le-zero h)
+present (x ∷ xs) zero d e h = refl
+present (x ∷ xs) (suc i) d e h = present xs i d e (le-of-suc-le-suc h)
+
+module _ (p : Slot → Bool) where
+  -- the first place where the test passes, from place i on, where `found` was found before
+  pub firstFrom : ℕ → List Slot → ℕ → ℕ
+  firstFrom i [] found = found
+  firstFrom i (s ∷ ss) found = firstFrom (suc i) ss (earliest found i (p s))
+
+  -- a place that was found before i stays; where none was, the first from i on is it
+  first-found : (i : ℕ) (ss : List Slot) (found : ℕ) → i + length ss ≡ 64 → found ≤ 64
+      → firstFrom i ss found ≡ cond (ltb found 64) found (i + firstIndex p ss)
+  unfolding firstFrom
+  first-found i [] found n h = go (ltb found 64) refl
+    where
+      go : (b : Bool) → ltb found 64 ≡ b → found ≡ cond b found (i + 0)
+      go true e = refl
+      go false e = omega (arith, ltb-false found 64 e)
+  first-found i (s ∷ ss) found n h = go (λ f k. first-found (suc i) ss f (omega arith) k) (ltb found 64) refl (p s)
+    where
+      go : ((f : ℕ) → f ≤ 64 → firstFrom (suc i) ss f ≡ cond (ltb f 64) f (suc i + firstIndex p ss)) → (b : Bool) → ltb found 64 ≡ b → (q : Bool)
+          → firstFrom (suc i) ss (cond b found (cond q i found)) ≡ cond b found (i + cond q 0 (suc (firstIndex p ss)))
+      go more true e q = more found h ∙ rw e
+      go more false e true = more i (omega arith) ∙ (rw (lt-ltb i 64 (omega arith)) (omega arith))
+      go more false e false = more found h ∙ (rw e (omega arith))
+
+  -- from the start
+  first-start : (ss : List Slot) → length ss ≡ 64 → firstFrom 0 ss 64 ≡ firstIndex p ss
+  first-start ss n = omega (arith, first-found 0 ss 64 (omega arith) (omega arith))
+
+  -- one slot further
+  first-on : (ss : List Slot) (i found x : ℕ) → i < length ss → firstFrom i (drop i ss) found ≡ x
+      → firstFrom (i + 1) (drop (i + 1) ss) (earliest found i (p (getD ss i freeSlot))) ≡ x
+  unfolding firstFrom
+  first-on ss i found x h e = rw add-one (rw (drop-cons ss i freeSlot h) at e)
+
+  first-end : (ss : List Slot) (i found x : ℕ) → length ss ≤ i → firstFrom i (drop i ss) found ≡ x → found ≡ x
+  unfolding firstFrom
+  first-end ss i found x h e = rw (drop-of-length-le ss h) at e
+
+  count-on : (ss : List Slot) (i n x : ℕ) → i < length ss → n + tally p (drop i ss) ≡ x → counted n (p (getD ss i freeSlot)) + tally p (drop (i + 1) ss) ≡ x
+  count-on ss i n x h e = rw add-one (go (p (getD ss i freeSlot)) (rw (drop-cons ss i freeSlot h) at e))
+    where
+      go : (b : Bool) → n + (bit b + tally p (drop (suc i) ss)) ≡ x → counted n b + tally p (drop (suc i) ss) ≡ x
+      go true k = omega arith
+      go false k = omega arith
+
+  count-end : (ss : List Slot) (i n x : ℕ) → length ss ≤ i → n + tally p (drop i ss) ≡ x → n ≡ x
+  count-end ss i n x h e = omega (arith, ap (tally p) (drop-of-length-le ss h))
+
+counted-most : (n i : ℕ) (b : Bool) → n ≤ i → counted n b ≤ i + 1
+counted-most n i true h = omega arith
+counted-most n i false h = omega arith
+
+module _ (t : ℕ) (b : List ℕ) (port : ℕ) (slots : List Slot) where
+  abbrev vacant : Slot → Bool
+  vacant s = not (isLive t (s .status))
+
+  abbrev pends : Slot → Bool
+  pends s = isPending t (s .status)
+
+  -- what is known when the scan has come to place i
+  pub record Seen (i : ℕ) (seen : Scan) : Type 0 where
+    pub place : firstFrom (holds t b port) i (drop i slots) (seen .place) ≡ firstIndex (holds t b port) slots
+    pub free : firstFrom vacant i (drop i slots) (seen .free) ≡ firstIndex vacant slots
+    pub pending : seen .pending + tally pends (drop i slots) ≡ tally pends slots
+    pub few : seen .pending ≤ i
+
+  pub seen-start : length slots ≡ 64 → Seen 0 (record { place = 64; free = 64; pending = 0 })
+  seen-start n = record { place = first-start (holds t b port) slots n; free = first-start vacant slots n; pending = omega arith; few = omega arith }
+
+  pub seen-on : (i : ℕ) (seen next : Scan) → i < length slots → Seen i seen → next ≡ seenWith seen i t b port (getD slots i freeSlot) → Seen (i + 1) next
+  unfolding seenWith
+  seen-on i seen next h k e =
+      rw e record {
+        place = first-on (holds t b port) slots i (seen .place) _ h (k .place);
+        free = first-on vacant slots i (seen .free) _ h (k .free);
+        pending = count-on pends slots i (seen .pending) _ h (k .pending);
+        few = counted-most (seen .pending) i (pends (getD slots i freeSlot)) (k .few);
+      }
+
+  pub seen-end : (i : ℕ) (seen : Scan) → length slots ≤ i → Seen i seen → seen ≡ scanOf t b port slots
+  seen-end i seen h k =
+      let p = first-end (holds t b port) slots i (seen .place) _ h (k .place) in
+      let f = first-end vacant slots i (seen .free) _ h (k .free) in
+      let n = count-end pends slots i (seen .pending) _ h (k .pending) in
+      λ j. record { place = p j; free = f j; pending = n j }

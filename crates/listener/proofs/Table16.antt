@@ -1,0 +1,86 @@
+-- Document 01, "The table of sixteen", proved: the segment crate's rows, and the three that speak of a call. Assumes nothing.
+use Prim.Native.Nat.{ℕ, _+_, _≤_, _<_}
+use mathlib.Core.Path.{_≡_, refl, ap, _∙_}
+use mathlib.Core.Bool.{true, false, and-false}
+use mathlib.Core.List.{List}
+use native.Mathlib.Omega.{arith}
+use borrow.Author.Tests.{le-ltb}
+use lib.ListN.{length, replicate}
+use Rattle.segment.specs.declared.write.Answer.{Answer}
+use Rattle.segment.proofs.Sixteen.{row1, row2, row3, row4, row5, row6, row7, row8, row9, row10, row11, row12, row16}
+use Rattle.segment.proofs.Exchange.{answer-bytes}
+use Rattle.listener.specs.Address.{block}
+use Rattle.listener.specs.Cookie.{cookieUnder}
+use Rattle.listener.specs.Table.{pendingAt}
+use Rattle.listener.specs.Call.{segment, sender}
+use Rattle.listener.specs.View.{view, ownAddress}
+use Rattle.listener.specs.Step.{cookiesRun, isEarly, isFresh, answerFrom, step, pendingNumber}
+use Rattle.listener.specs.Sixteen.{NewOpening, HasRight, Sixteen}
+use Rattle.listener.specs.declared.state.View.{View}
+use Rattle.listener.specs.declared.state.Listener.{Listener}
+use Rattle.listener.specs.declared.answer.Event.the-variants as events
+use Rattle.segment.proofs.Family.{family-back, right-family}
+use Rattle.segment.proofs.Exchange.{answer-without}
+use Rattle.listener.proofs.Openings.{slotFor, upTo, pending-put, is-early, clear-new, step-new}
+
+-- where pending is at the limit no cookie is taken or given
+at-limit : (l : Listener) (t : ℕ) (src seg : List ℕ) → l .settings .limit ≤ pendingAt t (l .slots) → cookiesRun (view l t (sender src seg)) ≡ false
+at-limit l t src seg h = rw (le-ltb (pendingAt t (l .slots)) (l .settings .limit) h) (and-false (l .settings .on))
+
+not-early : (v : View) (b seg : List ℕ) → cookiesRun v ≡ false → isEarly v b seg ≡ false
+unfolding isEarly
+not-early v b seg e = rw e
+
+not-fresh : (v : View) (b seg : List ℕ) → cookiesRun v ≡ false → isFresh v b seg ≡ false
+unfolding isFresh
+not-fresh v b seg e = rw e
+
+module _ (l : Listener) (t : ℕ) (src seg : List ℕ) (iss room : ℕ) (o : NewOpening l t src seg iss room) where
+  -- at the limit an opening is plain, and its answer has no cookie
+  at-limit-plain : l .settings .limit ≤ pendingAt t (l .slots)
+      → (step l (segment t src seg iss room) .event ≡ events.Regular) × (step l (segment t src seg iss room) .written ≡ 24)
+  at-limit-plain h =
+      let v : View = view l t (sender src seg) in
+      let own : List ℕ = ownAddress (l .home) in
+      let still = at-limit l t src seg h in
+      let k = clear-new l t src seg iss room (o .syn) (o .new) (o .clear) in
+      let e = step-new l t src seg iss room (o .syn) (o .new) false (not-early v (block src) seg still) (o .clear) in
+      let a : Answer = answerFrom (l .home) (l .settings .mss) (slotFor false src seg iss (upTo l seg)) false in
+      -- the cookie is not written, so any eight bytes stand for it
+      let any = answer-without own src a (cookieUnder (l .keys .present) (block src)) (replicate 8 0) room refl in
+      let bytes = answer-bytes own src a (replicate 8 0) room (family-back src own (right-family src own seg (k .checksum))) refl (k .output) in
+      (rw e, rw (e, not-fresh v (block src) seg still) (ap length any ∙ bytes))
+
+  -- below it, with a right cookie, it is early, and pending is one more
+  below-limit-early : l .settings .on ≡ true → pendingAt t (l .slots) < l .settings .limit → HasRight l src seg
+      → (step l (segment t src seg iss room) .event ≡ events.FastOpen (upTo l seg))
+      × (pendingNumber (step l (segment t src seg iss room) .listener) ≡ pendingAt t (l .slots) + 1)
+  unfolding pendingNumber
+  below-limit-early on h r =
+      let k = clear-new l t src seg iss room (o .syn) (o .new) (o .clear) in
+      let e = step-new l t src seg iss room (o .syn) (o .new) true (is-early l t src seg on h r) (o .clear) in
+      let s = slotFor true src seg iss (upTo l seg) in
+      (rw e, rw (e, k .started) (pending-put t (l .slots) s (rw (o .slots) (k .place))))
+
+pub sixteen : Sixteen
+sixteen =
+    record {
+      row1 = row1;
+      row2 = row2;
+      row3 = row3;
+      row4 = row4;
+      row5 = row5;
+      row6 = row6;
+      row7 = row7;
+      row8 = row8;
+      row9 = row9;
+      row10 = row10;
+      row11 = row11;
+      row12 = row12;
+      row13 = λ l t src seg iss room o e. at-limit-plain l t src seg iss room o (omega (arith, e)) .0;
+      row14 = λ l t src seg iss room o on e p r.
+          let k = below-limit-early l t src seg iss room o on (omega (arith, e, p)) r in
+          (k .0, k .1 ∙ ap (λ n. n + 1) p);
+      row15 = λ l t src seg iss room o on e p r. at-limit-plain l t src seg iss room o (omega (arith, e, p));
+      row16 = row16;
+    }

@@ -1,0 +1,18 @@
+-- `listener::address::is_address` meets its contract: the lengths are compared.
+-- Assumes nothing.
+use mathlib.Core.Path.{ap}
+use Prim.Native.Nat.{ℕ}
+use lib.Dec.{eqb}
+use lib.ListN.{length}
+use borrow.Author.Needs.{needs}
+use Rattle.listener.proofs.address.is_address.Statement.{statement}
+use Rattle.listener.proofs.address.is_address.Tie as tie
+
+size-of-requires : tie.Need-size-of-requires
+size-of-requires c κs = search needs
+
+returns : tie.Need-returns
+returns c = ap (λ (n : ℕ). eqb (length (c .before .before .args .addr .now)) n) (c .size-of .ensures)
+
+pub is-address-spec : {M : Type 1} → statement M
+is-address-spec = tie.close (tie.spec size-of-requires returns)

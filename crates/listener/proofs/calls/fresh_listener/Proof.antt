@@ -1,0 +1,36 @@
+-- `listener::calls::fresh_listener` meets its contract: family, block and round keys are the definition's.
+-- Assumes nothing.
+use mathlib.Core.Path.{_∙_}
+use mathlib.Core.Logic.{⊎-elim}
+use Rattle.listener.proofs.Parts.{four-bytes, other-bytes, fresh-made}
+use borrow.Author.Needs.{needs}
+use Rattle.listener.proofs.calls.fresh_listener.Statement.{statement}
+use Rattle.listener.proofs.calls.fresh_listener.Tie as tie
+
+block-of-requires : tie.Need-block-of-requires
+block-of-requires c κs = search needs
+
+key-of-requires : tie.Need-key-of-requires
+key-of-requires c κs = search needs
+
+expand-key-requires : tie.Need-expand-key-requires
+expand-key-requires c κs = search needs
+
+blank-listener-requires : tie.Need-blank-listener-requires
+blank-listener-requires c κs = search needs
+
+returns : tie.Need-returns
+returns c =
+    let a = c .before .before .before .before .before .before .before .args in
+    let family = ⊎-elim (λ w. four-bytes (a .own .now) (w .1) (w .0 .taken)) (λ w. other-bytes (a .own .now) (w .1) (w .0 .left)) (c .before .if1 .came) in
+    c .blank-listener .ensures ∙ fresh-made (a .own .now) (a .port) (a .key .now) family (c .before .before .before .before .block-of .ensures) (rw (c .before .before .before .key-of .ensures) at (c .before .before .expand-key .ensures))
+
+pub fresh-listener-spec : {M : Type 1} → statement M
+fresh-listener-spec =
+    tie.close
+    (tie.spec
+    block-of-requires
+    key-of-requires
+    expand-key-requires
+    blank-listener-requires
+    returns)

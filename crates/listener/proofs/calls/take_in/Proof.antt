@@ -1,0 +1,107 @@
+-- `listener::calls::take_in` meets its contract: by the checks.
+-- Assumes nothing.
+use Prim.Native.Nat.{ℕ}
+use mathlib.Core.Path.{_≡_, sym, ap, _∙_}
+use lib.ListN.{length}
+use borrow.Author.Tests.{not-true, not-false}
+use Rattle.listener.specs.View.{isLate}
+use Rattle.listener.proofs.Calling.{taken-refused, taken-unanswered, taken-answered, wired-short, wired-timely, time-most, unwritten, left-alone, written-over}
+use borrow.Author.Needs.{needs}
+use Rattle.listener.proofs.calls.take_in.Statement.{statement}
+use Rattle.listener.proofs.calls.take_in.Tie as tie
+
+block-of-requires : tie.Need-block-of-requires
+block-of-requires c κs =
+    let s = c .before .before .before in
+    let a = s .args in
+    wired-short (a .l .home) (isLate (a .l .clock) (a .time)) (a .src .now) (a .seg .now) (length (a .out .now)) (s .pre .1)
+
+scan-table-requires : tie.Need-scan-table-requires
+scan-table-requires c κs = search needs
+
+view-of-requires : tie.Need-view-of-requires
+view-of-requires c κs = search needs
+
+kind-of-requires : tie.Need-kind-of-requires
+kind-of-requires c κs = search needs
+
+check-kind-requires : tie.Need-check-kind-requires
+check-kind-requires c κs = search needs
+
+enum-known-why : tie.Need-enum-known-why
+enum-known-why c = search needs
+
+refused-requires : tie.Need-refused-requires
+refused-requires c κs = search needs
+
+enum-told : tie.Need-enum-told
+enum-told c = search needs
+
+act-requires : tie.Need-act-requires
+act-requires c κs =
+    let s = c .before .before .before .before .before .before .before .before .before .before in
+    let a = s .args in
+    time-most (a .l .clock) (a .time) (wired-timely (a .l .home) (isLate (a .l .clock) (a .time)) (a .src .now) (a .seg .now) (length (a .out .now)) (s .pre .1))
+
+is-answered-requires : tie.Need-is-answered-requires
+is-answered-requires c κs = search needs
+
+after-segment-requires : tie.Need-after-segment-requires
+after-segment-requires c κs = search needs
+
+returns : tie.Need-returns
+returns c =
+    let s = c .before .before .before .before .before .before .before .before .before .before .before .before .before .before .before .before in
+    let a = s .args in
+    left-alone (a .out .now) (taken-unanswered (a .l) (a .time) (a .src .now) (a .seg .now) (a .iss) (length (a .out .now)) (s .pre .1)
+    (s .pre .0) (c .before .before .before .before .before .before .before .before .before .before .before .before .block-of .ensures) (c .before .before .before .before .before .before .before .before .before .before .before .scan-table .ensures) (c .before .before .before .before .before .before .before .before .before .before .view-of .ensures) (c .before .before .before .before .before .before .before .before .before .kind-of .ensures)
+    (sym (c .before .before .before .before .before .before .before .before .check-kind .ensures) ∙ c .before .before .before .before .before .before .enum-told .given .1) (c .before .before .before .before .before .act .result) (c .before .before .before .before .before .act .ensures) (c .after-segment .ensures)
+    (sym (c .before .before .is-answered .ensures) ∙ not-true _ (c .before .if1 .taken)))
+
+write-from-requires : tie.Need-write-from-requires
+write-from-requires c κs = search needs
+
+after-segment-requires-2 : tie.Need-after-segment-requires-2
+after-segment-requires-2 c κs = search needs
+
+returns-2 : tie.Need-returns-2
+returns-2 c =
+    let s = c .before .before .before .before .before .before .before .before .before .before .before .before in
+    let a = s .args in
+    unwritten (a .out .now) (c .refused .ensures) (taken-refused (a .l) (a .time) (a .src .now) (a .seg .now) (a .iss) (length (a .out .now)) (s .pre .1)
+    (s .pre .0) (c .before .before .before .before .before .before .before .before .block-of .ensures) (c .before .before .before .before .before .before .before .scan-table .ensures) (c .before .before .before .before .before .before .view-of .ensures) (c .before .before .before .before .before .kind-of .ensures)
+    (sym (c .before .before .before .before .check-kind .ensures) ∙ c .before .before .why .given .1))
+
+same-length : tie.Need-same-length
+same-length c = search needs
+
+returns-3 : tie.Need-returns-3
+returns-3 c =
+    let s = c .before .before .before .before .before .before .before .before .before .before .before .before .before .before .before .before .before .before .before .before .before .before in
+    let a = s .args in
+    written-over (a .out .now) (taken-answered (a .l) (a .time) (a .src .now) (a .seg .now) (a .iss) (length (a .out .now)) (s .pre .1)
+    (s .pre .0) (c .before .before .before .before .before .before .before .before .before .before .before .before .before .before .before .before .before .before .block-of .ensures) (c .before .before .before .before .before .before .before .before .before .before .before .before .before .before .before .before .before .scan-table .ensures) (c .before .before .before .before .before .before .before .before .before .before .before .before .before .before .before .before .view-of .ensures) (c .before .before .before .before .before .before .before .before .before .before .before .before .before .before .before .kind-of .ensures)
+    (sym (c .before .before .before .before .before .before .before .before .before .before .before .before .before .before .check-kind .ensures) ∙ c .before .before .before .before .before .before .before .before .before .before .before .before .enum-told .given .1) (c .before .before .before .before .before .before .before .before .before .before .before .act .result) (c .before .before .before .before .before .before .before .before .before .before .before .act .ensures) (c .after-segment2 .ensures)
+    (sym (c .before .before .before .before .before .before .before .before .is-answered .ensures) ∙ not-false _ (c .before .before .before .before .before .before .before .if1 .left))) (c .before .before .before .write-from .ensures)
+
+pub take-in-spec : {M : Type 1} → statement M
+take-in-spec =
+    tie.close
+    (tie.spec
+    block-of-requires
+    scan-table-requires
+    view-of-requires
+    kind-of-requires
+    check-kind-requires
+    enum-known-why
+    refused-requires
+    enum-told
+    act-requires
+    is-answered-requires
+    after-segment-requires
+    returns
+    write-from-requires
+    after-segment-requires-2
+    returns-2
+    same-length
+    returns-3)

@@ -1,0 +1,43 @@
+-- `listener::calls::write_from` meets its contract: the answer's fields come from the slot.
+-- Assumes nothing.
+use Rattle.listener.proofs.Receiving.{own-most, own-part}
+use borrow.Author.Needs.{needs}
+use Rattle.listener.proofs.calls.write_from.Statement.{statement}
+use Rattle.listener.proofs.calls.write_from.Tie as tie
+
+size-of-requires : tie.Need-size-of-requires
+size-of-requires c κs = search needs
+
+accepted-with-requires : tie.Need-accepted-with-requires
+accepted-with-requires c κs = search needs
+
+array-share-prefix-own : tie.Need-array-share-prefix-own
+array-share-prefix-own c =
+    let h = c .before .before .before .before .before .before .args .home in
+    own-most (h .family) (h .own) (c .before .before .size-of .ensures) (search needs)
+
+slice-aggregate-write-answer : tie.Need-slice-aggregate-write-answer
+slice-aggregate-write-answer c =
+    let h = c .before .before .before .before .before .before .before .args .home in
+    own-part (h .family) (h .own) (c .before .before .before .size-of .ensures) (search needs)
+
+write-answer-requires : tie.Need-write-answer-requires
+write-answer-requires c κs = search needs
+
+same-length : tie.Need-same-length
+same-length c = search needs
+
+returns : tie.Need-returns
+returns c = rw (c .before .before .before .before .before .accepted-with .ensures, c .before .before .before .before .before .before .size-of .ensures) at (c .before .before .write-answer .ensures)
+
+pub write-from-spec : {M : Type 1} → statement M
+write-from-spec =
+    tie.close
+    (tie.spec
+    size-of-requires
+    accepted-with-requires
+    array-share-prefix-own
+    slice-aggregate-write-answer
+    write-answer-requires
+    same-length
+    returns)

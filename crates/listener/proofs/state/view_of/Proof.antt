@@ -1,0 +1,17 @@
+-- `listener::state::view_of` meets its contract: field by field.
+-- Assumes nothing.
+use borrow.Author.Needs.{needs}
+use Rattle.listener.proofs.state.view_of.Statement.{statement}
+use Rattle.listener.proofs.state.view_of.Tie as tie
+
+is-late-requires : tie.Need-is-late-requires
+is-late-requires c κs = search needs
+
+slot-at-requires : tie.Need-slot-at-requires
+slot-at-requires c κs = search needs
+
+returns : tie.Need-returns
+returns c = simp (c .before .before .before .before .is-late .ensures, c .before .before .before .slot-at .ensures)
+
+pub view-of-spec : {M : Type 1} → statement M
+view-of-spec = tie.close (tie.spec is-late-requires slot-at-requires returns)

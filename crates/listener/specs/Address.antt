@@ -1,0 +1,31 @@
+-- Document 01, "Numbers returned" (2), "Cookie" (the block) and "Listener" (the name): addresses.
+-- Assumes nothing.
+use Prim.Native.Nat.{ℕ, _-_}
+use mathlib.Core.List.{List, _++_}
+use mathlib.Core.Bool.{Bool, _&&_}
+use lib.Dec.{eqb}
+use lib.ListN.{length, replicate}
+use Rattle.listener.specs.Lists.{sameBytes}
+use Rattle.listener.specs.declared.address.Family.{Family}
+use Rattle.listener.specs.declared.address.Family.the-variants.{V4, V6}
+
+-- how many bytes an address of the family has
+abbrev pub size : Family → ℕ
+size V4 = 4
+size V6 = 16
+
+-- not refusal 2: the address is of the family fixed at the start
+abbrev pub isAddress : Family → List ℕ → Bool
+isAddress f a = eqb (length a) (size f)
+
+-- the block of 16 bytes: the address, followed by zero bytes
+unfoldable pub block : List ℕ → List ℕ
+block a = a ++ replicate (16 - length a) 0
+
+-- 01's name of a connection: source address and source port
+pub record Peer : Type 0 where
+  pub address : List ℕ
+  pub port : ℕ
+
+unfoldable pub samePeer : Peer → Peer → Bool
+samePeer m n = sameBytes (m .address) (n .address) && eqb (m .port) (n .port)

@@ -1,0 +1,195 @@
+-- Document 01, "Demand 3's book": a record of the calls that is kept apart from the listener. It is fed the start's arguments, each call's and the number
+-- answered, and nothing from the slots.
+-- Assumes nothing.
+use Prim.Native.Nat.{ℕ, zero, suc, _+_, min}
+use mathlib.Core.List.{List, [], _∷_}
+use mathlib.Core.Bool.{Bool, true, false, cond, _&&_, _||_}
+use lib.Dec.{ltb}
+use lib.ListN.{length, take}
+use Rattle.cipher.specs.KeyExpansion.{keyExpansion}
+use Rattle.segment.specs.Header.{fieldsOf, payloadOf, kindOf}
+use Rattle.segment.specs.declared.header.Kind.{Kind}
+use Rattle.segment.specs.declared.header.Kind.the-variants.{Syn, Rst, Ack, Other}
+use Rattle.listener.specs.Lists.{tally, amend}
+use Rattle.listener.specs.Address.{Peer, samePeer, block}
+use Rattle.listener.specs.Cookie.{Carried, carriedBy, rightUnder}
+use Rattle.listener.specs.Call.{Call, segment, settings, key, abandon, resend, close, sender, timeOf, Verdict, early, plain, repeat, unjudged}
+use Rattle.listener.specs.declared.state.Settings.{Settings}
+
+-- what is written of a connection
+pub data Mark : Type 0 where
+  isPlain isEarly isOpen : Mark
+  isHeld : ℕ → Mark
+
+-- an entry, by name
+pub record Entry : Type 0 where
+  pub who : Peer
+  pub mark : Mark
+
+pub data PreviousKey : Type 0 where
+  noKey : PreviousKey
+  aKey : List ℕ → PreviousKey
+
+pub record Journal : Type 0 where
+  pub time : ℕ
+  pub settings : Settings
+  pub present : List ℕ
+  pub previous : PreviousKey
+  pub entries : List Entry
+
+-- At the start: as in the fresh state.
+abbrev pub begun : List ℕ → ℕ → List ℕ → Journal
+begun own port k =
+    record {
+      time = 0;
+      settings = record { on = false; limit = 0; room = 0; hold = 0; mss = 536 };
+      present = k;
+      previous = noKey;
+      entries = [];
+    }
+
+-- Its pending: the early entries, and the held ones that end after its time.
+abbrev pub pends : ℕ → Mark → Bool
+pends t isPlain = false
+pends t isEarly = true
+pends t isOpen = false
+pends t (isHeld end) = ltb t end
+
+abbrev pub pendingOf : Journal → ℕ
+pendingOf j = tally (λ e. pends (j .time) (e .mark)) (j .entries)
+
+-- The settings in force.
+abbrev pub settingsOf : Journal → Settings
+settingsOf j = j .settings
+
+-- Entries are found by name.
+abbrev pub named : Peer → Entry → Bool
+named p e = samePeer p (e .who)
+
+abbrev pub has : Peer → List Entry → Bool
+has p entries = ltb 0 (tally (named p) entries)
+
+-- What becomes of an entry, by rules: it stays, changes or is struck out.
+
+-- a held one that ends at or before the time is struck out
+abbrev pub keptMark : ℕ → Peer → Mark → List Entry
+keptMark t p isPlain = record { who = p; mark = isPlain } ∷ []
+keptMark t p isEarly = record { who = p; mark = isEarly } ∷ []
+keptMark t p isOpen = record { who = p; mark = isOpen } ∷ []
+keptMark t p (isHeld end) = cond (ltb t end) (record { who = p; mark = isHeld end } ∷ []) []
+
+abbrev pub kept : ℕ → Entry → List Entry
+kept t e = keptMark t (e .who) (e .mark)
+
+-- a rule for the entry of one name; others stay
+abbrev pub only : Peer → (Entry → List Entry) → Entry → List Entry
+only p rule e = cond (named p e) (rule e) (e ∷ [])
+
+abbrev pub struck : Entry → List Entry
+struck e = []
+
+abbrev pub completed : Entry → List Entry
+completed e = record { who = e .who; mark = isOpen } ∷ []
+
+-- plain is struck out, early is held until an end
+abbrev pub resetMark : ℕ → Peer → Mark → List Entry
+resetMark end p isPlain = []
+resetMark end p isEarly = record { who = p; mark = isHeld end } ∷ []
+resetMark end p isOpen = record { who = p; mark = isOpen } ∷ []
+resetMark end p (isHeld e) = record { who = p; mark = isHeld e } ∷ []
+
+abbrev pub wasReset : ℕ → Entry → List Entry
+wasReset end e = resetMark end (e .who) (e .mark)
+
+abbrev pub with : Journal → List Entry → Journal
+with j entries = record { time = j .time; settings = j .settings; present = j .present; previous = j .previous; entries = entries }
+
+abbrev pub amended : Journal → Peer → (Entry → List Entry) → Journal
+amended j p rule = with j (amend (only p rule) (j .entries))
+
+-- Openings
+
+-- the cookie is the one for the address under the present key, or under the previous one
+abbrev pub rightBefore : PreviousKey → List ℕ → Carried → Bool
+rightBefore noKey b o = false
+rightBefore (aKey k) b o = rightUnder (keyExpansion k) b o
+
+unfoldable pub hasRight : Journal → List ℕ → List ℕ → Bool
+hasRight j src seg = rightUnder (keyExpansion (j .present)) (block src) (carriedBy seg) || rightBefore (j .previous) (block src) (carriedBy seg)
+
+-- a new opening is early exactly if Fast Open is on, pending so far is below the limit and a counted option has a right cookie
+unfoldable pub opensEarly : Journal → List ℕ → List ℕ → Bool
+opensEarly j src seg = settingsOf j .on && (ltb (pendingOf j) (settingsOf j .limit) && hasRight j src seg)
+
+abbrev pub newMark : Bool → Mark
+newMark true = isEarly
+newMark false = isPlain
+
+-- a name with an entry is a repeat; another gets one
+abbrev pub opened : Bool → Journal → List ℕ → List ℕ → Journal
+opened true j src seg = j
+opened false j src seg = with j (record { who = sender src seg; mark = newMark (opensEarly j src seg) } ∷ j .entries)
+
+-- One call
+
+-- the time is set, and held entries that end at or before it are struck out
+abbrev pub turnedTo : ℕ → Journal → Journal
+turnedTo t j =
+    record { time = t; settings = j .settings; present = j .present; previous = j .previous; entries = amend (kept t) (j .entries) }
+
+unfoldable pub segmentWritten : Journal → List ℕ → List ℕ → Kind → Journal
+segmentWritten j src seg Syn = opened (has (sender src seg) (j .entries)) j src seg
+segmentWritten j src seg Ack = amended j (sender src seg) completed
+segmentWritten j src seg Rst = amended j (sender src seg) (wasReset (j .time + settingsOf j .hold))
+segmentWritten j src seg Other = j
+
+unfoldable pub written : Journal → Call → Journal
+written j (segment t src seg iss room) = segmentWritten j src seg (kindOf (fieldsOf seg .flags))
+written j (settings t g) = record { time = j .time; settings = g; present = j .present; previous = j .previous; entries = j .entries }
+written j (key t k) = record { time = j .time; settings = j .settings; present = k; previous = aKey (j .present); entries = j .entries }
+written j (abandon t a p) = amended j (record { address = a; port = p }) struck
+written j (resend t a p room) = j
+written j (close t a p) = amended j (record { address = a; port = p }) struck
+
+-- a call and the number that it was answered: a refused one leaves the journal as it is
+unfoldable pub feed : Journal → Call → ℕ → Journal
+feed j c zero = written (turnedTo (timeOf c) j) c
+feed j c (suc n) = j
+
+-- What it says of a call's answer: the verdict, the accepted count and the accepted part, that many bytes from the payload's start.
+pub record Said : Type 0 where
+  pub verdict : Verdict
+  pub accepted : ℕ
+  pub part : List ℕ
+
+abbrev pub silence : Said
+silence = record { verdict = unjudged; accepted = 0; part = [] }
+
+-- an early one's count is the smaller of payload and early room, any other's 0
+abbrev pub saysNew : Bool → Journal → List ℕ → Said
+saysNew true j seg =
+    let n = min (length (payloadOf seg)) (settingsOf j .room) in
+    record { verdict = early; accepted = n; part = take n (payloadOf seg) }
+saysNew false j seg = record { verdict = plain; accepted = 0; part = [] }
+
+abbrev pub saysOpening : Bool → Journal → List ℕ → List ℕ → Said
+saysOpening true j src seg = record { verdict = repeat; accepted = 0; part = [] }
+saysOpening false j src seg = saysNew (opensEarly j src seg) j seg
+
+unfoldable pub saysSegment : Journal → List ℕ → List ℕ → Kind → Said
+saysSegment j src seg Syn = saysOpening (has (sender src seg) (j .entries)) j src seg
+saysSegment j src seg Ack = silence
+saysSegment j src seg Rst = silence
+saysSegment j src seg Other = silence
+
+unfoldable pub saysDone : Journal → Call → Said
+saysDone j (segment t src seg iss room) = saysSegment j src seg (kindOf (fieldsOf seg .flags))
+saysDone j (settings t g) = silence
+saysDone j (key t k) = silence
+saysDone j (abandon t a p) = silence
+saysDone j (resend t a p room) = silence
+saysDone j (close t a p) = silence
+
+unfoldable pub says : Journal → Call → ℕ → Said
+says j c zero = saysDone (turnedTo (timeOf c) j) c
+says j c (suc n) = silence

@@ -1,0 +1,24 @@
+-- The scan of the table, slot by slot. No document has it: it carries `scanOf` to the code.
+-- Assumes nothing.
+use Prim.Native.Nat.{ℕ, suc}
+use mathlib.Core.List.{List, [], _∷_}
+use mathlib.Core.Bool.{Bool, not, cond}
+use lib.Dec.{ltb}
+use Rattle.listener.specs.Table.{isLive, isPending, holds}
+use Rattle.listener.specs.declared.table.Slot.{Slot}
+use Rattle.listener.specs.declared.table.Scan.{Scan}
+
+-- the place found so far, 64 for none, and a place where the test came out so
+abbrev pub earliest : ℕ → ℕ → Bool → ℕ
+earliest found i here = cond (ltb found 64) found (cond here i found)
+
+abbrev pub counted : ℕ → Bool → ℕ
+counted n here = cond here (suc n) n
+
+unfoldable pub seenWith : Scan → ℕ → ℕ → List ℕ → ℕ → Slot → Scan
+seenWith seen i t b port s =
+    record {
+      place = earliest (seen .place) i (holds t b port s);
+      free = earliest (seen .free) i (not (isLive t (s .status)));
+      pending = counted (seen .pending) (isPending t (s .status));
+    }

@@ -1,0 +1,95 @@
+-- Document 01, "Listener": the slots, which of them are free, and pending.
+-- Assumes nothing.
+use Prim.Native.Nat.{ℕ}
+use mathlib.Core.List.{List}
+use mathlib.Core.Bool.{Bool, true, false, not, _&&_}
+use lib.Dec.{ltb, eqb}
+use lib.ListN.{replicate}
+use Rattle.listener.specs.Lists.{sameBytes, tally, firstIndex}
+use Rattle.listener.specs.Address.{Peer, block}
+use Rattle.listener.specs.declared.table.Status.{Status}
+use Rattle.listener.specs.declared.table.Status.the-variants.{Free, SynReceived, FastOpen, ResetHeld, Established}
+use Rattle.listener.specs.declared.table.Slot.{Slot}
+use Rattle.listener.specs.declared.table.Scan.{Scan}
+
+-- A status is 01's free, plain, early with its accepted count, held until a time, or open. A held slot whose end is at or before the time counts as free.
+abbrev pub isLive : ℕ → Status → Bool
+isLive t Free = false
+isLive t SynReceived = true
+isLive t (FastOpen n) = true
+isLive t (ResetHeld end) = ltb t end
+isLive t Established = true
+
+-- early, or held with its end after the time
+abbrev pub isPending : ℕ → Status → Bool
+isPending t Free = false
+isPending t SynReceived = false
+isPending t (FastOpen n) = true
+isPending t (ResetHeld end) = ltb t end
+isPending t Established = false
+
+-- plain or early: the handshake is not complete
+abbrev pub isWaiting : Status → Bool
+isWaiting Free = false
+isWaiting SynReceived = true
+isWaiting (FastOpen n) = true
+isWaiting (ResetHeld end) = false
+isWaiting Established = false
+
+abbrev pub isEstablished : Status → Bool
+isEstablished Free = false
+isEstablished SynReceived = false
+isEstablished (FastOpen n) = false
+isEstablished (ResetHeld end) = false
+isEstablished Established = true
+
+abbrev pub isFree : Status → Bool
+isFree Free = true
+isFree SynReceived = false
+isFree (FastOpen n) = false
+isFree (ResetHeld end) = false
+isFree Established = false
+
+-- how many bytes of early data were accepted
+abbrev pub acceptedWith : Status → ℕ
+acceptedWith Free = 0
+acceptedWith SynReceived = 0
+acceptedWith (FastOpen n) = n
+acceptedWith (ResetHeld end) = 0
+acceptedWith Established = 0
+
+-- "Reset": plain becomes free, early is held until an end
+abbrev pub afterReset : ℕ → Status → Status
+afterReset end Free = Free
+afterReset end SynReceived = Free
+afterReset end (FastOpen n) = ResetHeld end
+afterReset end (ResetHeld e) = ResetHeld e
+afterReset end Established = Established
+
+-- Slots are made in three ways: free at the start, new for an opening, and with another status.
+abbrev pub freeSlot : Slot
+freeSlot = record { addr = replicate 16 0; port = 0; irs = 0; iss = 0; status = Free }
+
+abbrev pub newSlot : List ℕ → ℕ → ℕ → ℕ → Status → Slot
+newSlot b port irs iss status = record { addr = b; port = port; irs = irs; iss = iss; status = status }
+
+abbrev pub turned : Slot → Status → Slot
+turned s status = record { addr = s .addr; port = s .port; irs = s .irs; iss = s .iss; status = status }
+
+-- a connection of the peer with this block and port stands in the slot at the time
+unfoldable pub holds : ℕ → List ℕ → ℕ → Slot → Bool
+holds t b port s = isLive t (s .status) && (eqb (s .port) port && sameBytes (s .addr) b)
+
+-- the peer's place among the slots that are live at the time, and the lowest free place; the number of slots where there is none
+abbrev pub place : ℕ → Peer → List Slot → ℕ
+place t p slots = firstIndex (holds t (block (p .address)) (p .port)) slots
+
+abbrev pub freePlace : ℕ → List Slot → ℕ
+freePlace t slots = firstIndex (λ s. not (isLive t (s .status))) slots
+
+abbrev pub pendingAt : ℕ → List Slot → ℕ
+pendingAt t slots = tally (λ s. isPending t (s .status)) slots
+
+-- the three in one scan of the table
+abbrev pub scanOf : ℕ → List ℕ → ℕ → List Slot → Scan
+scanOf t b port slots = record { place = firstIndex (holds t b port) slots; free = freePlace t slots; pending = pendingAt t slots }

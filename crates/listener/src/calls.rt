@@ -1,0 +1,420 @@
+// The listener's calls and readings. Each call carries a time in ms and answers the listener next; a refused one answers the listener as it was and
+// leaves the output alone.
+use crate::address::Family;
+use crate::address::block_of;
+use crate::address::size_of;
+use crate::answer::Event;
+use crate::answer::Outcome;
+use crate::answer::Started;
+use crate::answer::is_answered;
+use crate::checks::Received;
+use crate::checks::check_kind;
+use crate::checks::check_name;
+use crate::checks::check_output;
+use crate::checks::check_time;
+use crate::checks::is_in_range;
+use crate::checks::receive;
+use crate::opening::act;
+use crate::state::Home;
+use crate::state::InForce;
+use crate::state::Keys;
+use crate::state::Listener;
+use crate::state::Settings;
+use crate::state::at_time;
+use crate::state::free_slot;
+use crate::state::view_of;
+use crate::state::with_slot;
+use crate::table::Scan;
+use crate::table::Slot;
+use crate::table::Status;
+use crate::table::accepted_with;
+use crate::table::is_established;
+use crate::table::is_waiting;
+use crate::table::scan_table;
+use crate::table::turned_to;
+use cipher::expand_key;
+use segment::header::Header;
+use segment::header::kind_of;
+use segment::refusal::Check;
+use segment::refusal::Refusal;
+use segment::write::Answer;
+use segment::write::write_answer;
+ghost use mathlib.Core.Path.{_≡_};
+ghost use Prim.Native.Nat.{_≤_};
+ghost use lib.ListN.{length};
+ghost use Rattle.segment.specs.Refusal.{refusal};
+ghost use Rattle.segment.specs.Header.{fieldsOf};
+ghost use Rattle.segment.specs.Write.{answerBytes, overwrite};
+ghost use Rattle.listener.specs.Table.{pendingAt};
+ghost use Rattle.listener.specs.View.{isLate, ownAddress};
+ghost use Rattle.listener.specs.Call.{Call};
+ghost use Rattle.listener.specs.Refusals.{wireChecks, isReleasable, releaseOf};
+ghost use Rattle.listener.specs.Step.{blank, fresh, neverStarted, startOf, segmentAfter, answerFrom, step, outputOf, pendingNumber};
+
+// A refused call changes nothing.
+fn refused(l: Listener, why: Refusal) -> Outcome
+    ensures { λ r. ⌜ r ≡ record { listener = l; event = Event.Refused why; written = 0 } ⌝ }
+{
+    Outcome {
+        listener: l,
+        event: Event::Refused(why),
+        written: 0,
+    }
+}
+
+// A call that writes nothing and has no verdict is done.
+fn done(l: Listener) -> Outcome
+    ensures { λ r. ⌜ r ≡ record { listener = l; event = Event.Done; written = 0 } ⌝ }
+{
+    Outcome {
+        listener: l,
+        event: Event::Done,
+        written: 0,
+    }
+}
+
+// A listener with no connection, at time 0.
+fn blank_listener(home: Home, keys: Keys) -> Listener
+    ensures { λ r. ⌜ r ≡ blank home keys ⌝ }
+{
+    let slot = free_slot();
+    Listener {
+        slots: [slot; 64],
+        keys,
+        home,
+        settings: InForce {
+            on: false,
+            limit: 0,
+            room: 0,
+            hold: 0,
+            mss: 536,
+        },
+        clock: 0,
+    }
+}
+
+// The listener of a refused start.
+pub fn never_started() -> Listener
+    ensures { λ r. ⌜ r ≡ neverStarted ⌝ }
+{
+    let home = Home {
+        started: false,
+        family: Family::V4,
+        own: [0u8; 16],
+        port: 0,
+    };
+    let keys = Keys {
+        present: [0u8; 176],
+        previous: [0u8; 176],
+        rotated: false,
+    };
+    blank_listener(home, keys)
+}
+
+// A key of 16 bytes.
+fn key_of(key: &[u8]) -> [u8; 16]
+    requires { ⌜ length (now key) ≡ 16 ⌝ }
+    ensures { λ r. ⌜ r ≡ now (key .entry) ⌝ }
+{
+    let mut k = [0u8; 16];
+    bytes::copy(key, &mut k);
+    k
+}
+
+fn fresh_listener(own: &[u8], port: u16, key: &[u8]) -> Listener
+    requires { ⌜ (length (now own) ≤ 16) × (length (now key) ≡ 16) ⌝ }
+    ensures { λ r. ⌜ r ≡ fresh (now (own .entry)) port (now (key .entry)) ⌝ }
+{
+    let block = block_of(own);
+    let present = expand_key(key_of(key));
+    let family = if own.len() == 4 {
+        Family::V4
+    } else {
+        Family::V6
+    };
+    let home = Home {
+        started: true,
+        family,
+        own: block,
+        port,
+    };
+    let keys = Keys {
+        present,
+        previous: [0u8; 176],
+        rotated: false,
+    };
+    blank_listener(home, keys)
+}
+
+fn refused_start(why: Refusal) -> Started
+    ensures { λ r. ⌜ r ≡ record { listener = neverStarted; check = Check.Refused why } ⌝ }
+{
+    Started {
+        listener: never_started(),
+        check: Check::Refused(why),
+    }
+}
+
+// Starts a listener: own address, own port, and a key of 16 bytes.
+pub fn start(own: &[u8], port: u16, key: &[u8]) -> Started
+    ensures { λ r. ⌜ r ≡ startOf (now (own .entry)) port (now (key .entry)) ⌝ }
+{
+    let n = own.len();
+    if n != 4 {
+        if n != 16 {
+            return refused_start(Refusal::Address);
+        }
+    }
+    if key.len() != 16 {
+        return refused_start(Refusal::Range);
+    }
+    Started {
+        listener: fresh_listener(own, port, key),
+        check: Check::Clear,
+    }
+}
+
+// Writes the answer from a slot.
+fn write_from(
+    out: &mut [u8],
+    home: Home,
+    mss: u16,
+    dst: &[u8],
+    s: Slot,
+    fresh: bool,
+    cookie: [u8; 8],
+) -> usize
+    ensures { λ r. ⌜ r ≡ length (answerBytes (ownAddress home) (now (dst .entry)) (answerFrom home mss s fresh) cookie (length (now (out .entry)))) ⌝ }
+    ensures { λ _. ⌜ now (out .exit) ≡ overwrite (answerBytes (ownAddress home) (now (dst .entry)) (answerFrom home mss s fresh) cookie (length (now (out .entry)))) (now (out .entry)) ⌝ }
+{
+    let family = home.family;
+    let own = home.own;
+    let n = size_of(family);
+    let status = s.status;
+    let a = Answer {
+        source: home.port,
+        dest: s.port,
+        iss: s.iss,
+        irs: s.irs,
+        accepted: accepted_with(status),
+        mss,
+        fresh,
+    };
+    write_answer(out, &own[..n], dst, a, cookie)
+}
+
+// The listener after a segment that was not refused.
+fn after_segment(l: Listener, time: u64, found: Scan, event: Event, s: Slot) -> Listener
+    ensures { λ r. ⌜ r ≡ segmentAfter l time found event s ⌝ }
+{
+    match event {
+        Event::Refused(_) => l,
+        Event::FastOpen(_) => with_slot(l, time, found.free, s),
+        Event::Regular => with_slot(l, time, found.free, s),
+        Event::Retransmission => at_time(l, time),
+        Event::Completed => with_slot(l, time, found.place, s),
+        Event::WasReset => with_slot(l, time, found.place, s),
+        Event::Done => at_time(l, time),
+    }
+}
+
+// A segment that passed the checks before its kind.
+fn take_in(
+    l: Listener,
+    time: u64,
+    src: &[u8],
+    seg: &[u8],
+    h: Header,
+    iss: u32,
+    out: &mut [u8],
+) -> Outcome
+    requires { ⌜ h ≡ fieldsOf (now seg) ⌝ }
+    requires { ⌜ refusal (wireChecks (l .home) (isLate (l .clock) time) (now src) (now seg) (length (now out))) ≡ Check.Clear ⌝ }
+    ensures { λ r. ⌜ r ≡ step l (Call.segment time (now (src .entry)) (now (seg .entry)) iss (length (now (out .entry)))) ⌝ }
+    ensures { λ _. ⌜ now (out .exit) ≡ overwrite (outputOf l (Call.segment time (now (src .entry)) (now (seg .entry)) iss (length (now (out .entry))))) (now (out .entry)) ⌝ }
+{
+    let b = block_of(src);
+    let found = scan_table(l, time, b, h.source);
+    let v = view_of(l, time, found);
+    let kind = kind_of(h.flags);
+    match check_kind(v, h, kind) {
+        Check::Refused(why) => refused(l, why),
+        Check::Clear => {
+            let action = act(v, time, b, h, iss, seg, kind);
+            let event = action.event;
+            let slot = action.slot;
+            let cookie = action.cookie;
+            if !is_answered(event) {
+                return Outcome {
+                    listener: after_segment(l, time, found, event, slot),
+                    event,
+                    written: 0,
+                };
+            }
+            let home = v.home;
+            let g = v.settings;
+            let written = write_from(out, home, g.mss, src, slot, action.fresh, cookie);
+            Outcome {
+                listener: after_segment(l, time, found, event, slot),
+                event,
+                written,
+            }
+        }
+    }
+}
+
+// Takes a segment of any kind from a source address. `iss` is our initial number, should it open a connection; the output has room for 36 bytes,
+// whatever the kind.
+pub fn segment(l: Listener, time: u64, src: &[u8], seg: &[u8], iss: u32, out: &mut [u8]) -> Outcome
+    ensures { λ r. ⌜ r ≡ step l (Call.segment time (now (src .entry)) (now (seg .entry)) iss (length (now (out .entry)))) ⌝ }
+    ensures { λ _. ⌜ now (out .exit) ≡ overwrite (outputOf l (Call.segment time (now (src .entry)) (now (seg .entry)) iss (length (now (out .entry))))) (now (out .entry)) ⌝ }
+{
+    let home = l.home;
+    match receive(home, l.clock, time, src, seg, out.len()) {
+        Received::Dropped(why) => refused(l, why),
+        Received::Read(h) => take_in(l, time, src, seg, h, iss, out),
+    }
+}
+
+// Sets the settings.
+pub fn set_settings(mut l: Listener, time: u64, g: Settings) -> Outcome
+    ensures { λ r. ⌜ r ≡ step l (Call.settings time g) ⌝ }
+{
+    let home = l.home;
+    match check_time(home, l.clock, time) {
+        Check::Refused(why) => refused(l, why),
+        Check::Clear => {
+            if !is_in_range(g) {
+                return refused(l, Refusal::Range);
+            }
+            let kept = InForce {
+                on: g.on,
+                limit: g.limit,
+                room: g.room,
+                hold: g.hold,
+                mss: g.mss as u16,
+            };
+            l.settings = kept;
+            l.clock = time;
+            done(l)
+        }
+    }
+}
+
+// Sets the key, of 16 bytes; the present one becomes the previous one.
+pub fn set_key(mut l: Listener, time: u64, key: &[u8]) -> Outcome
+    ensures { λ r. ⌜ r ≡ step l (Call.key time (now (key .entry))) ⌝ }
+{
+    let home = l.home;
+    match check_time(home, l.clock, time) {
+        Check::Refused(why) => refused(l, why),
+        Check::Clear => {
+            if key.len() != 16 {
+                return refused(l, Refusal::Range);
+            }
+            let was = l.keys;
+            let previous = was.present;
+            let keys = Keys {
+                present: expand_key(key_of(key)),
+                previous,
+                rotated: true,
+            };
+            l.keys = keys;
+            l.clock = time;
+            done(l)
+        }
+    }
+}
+
+// Frees a connection's slot, by its name, if its status is right for it.
+fn free_named(l: Listener, time: u64, addr: &[u8], port: u16, established: bool) -> Outcome
+    ensures { λ r. ⌜ r ≡ step l (releaseOf established time (now (addr .entry)) port) ⌝ }
+{
+    let home = l.home;
+    match check_name(home, l.clock, time, addr) {
+        Check::Refused(why) => refused(l, why),
+        Check::Clear => {
+            let b = block_of(addr);
+            let found = scan_table(l, time, b, port);
+            let v = view_of(l, time, found);
+            let slot = v.slot;
+            let status = slot.status;
+            if !is_releasable(established, status) {
+                return refused(l, Refusal::NoConnection);
+            }
+            done(with_slot(l, time, found.place, turned_to(slot, Status::Free)))
+        }
+    }
+}
+
+fn is_releasable(established: bool, s: Status) -> bool
+    ensures { λ r. ⌜ r ≡ isReleasable established s ⌝ }
+{
+    if established {
+        return is_established(s);
+    }
+    is_waiting(s)
+}
+
+// Abandons a connection whose handshake is not complete.
+pub fn abandon(l: Listener, time: u64, addr: &[u8], port: u16) -> Outcome
+    ensures { λ r. ⌜ r ≡ step l (Call.abandon time (now (addr .entry)) port) ⌝ }
+{
+    free_named(l, time, addr, port, false)
+}
+
+// Closes a connection whose handshake is complete.
+pub fn close(l: Listener, time: u64, addr: &[u8], port: u16) -> Outcome
+    ensures { λ r. ⌜ r ≡ step l (Call.close time (now (addr .entry)) port) ⌝ }
+{
+    free_named(l, time, addr, port, true)
+}
+
+// Writes the answer of a connection whose handshake is not complete once more.
+pub fn resend(l: Listener, time: u64, addr: &[u8], port: u16, out: &mut [u8]) -> Outcome
+    ensures { λ r. ⌜ r ≡ step l (Call.resend time (now (addr .entry)) port (length (now (out .entry)))) ⌝ }
+    ensures { λ _. ⌜ now (out .exit) ≡ overwrite (outputOf l (Call.resend time (now (addr .entry)) port (length (now (out .entry))))) (now (out .entry)) ⌝ }
+{
+    let home = l.home;
+    match check_output(home, l.clock, time, addr, out.len()) {
+        Check::Refused(why) => refused(l, why),
+        Check::Clear => {
+            let b = block_of(addr);
+            let found = scan_table(l, time, b, port);
+            let v = view_of(l, time, found);
+            let slot = v.slot;
+            let status = slot.status;
+            if !is_waiting(status) {
+                return refused(l, Refusal::NoConnection);
+            }
+            let g = v.settings;
+            let cookie = [0u8; 8];
+            let written = write_from(out, home, g.mss, addr, slot, false, cookie);
+            Outcome {
+                listener: at_time(l, time),
+                event: Event::Done,
+                written,
+            }
+        }
+    }
+}
+
+// How many slots are pending at a time.
+fn count_pending(l: Listener) -> u32
+    ensures { λ r. ⌜ r ≡ pendingAt (l .clock) (l .slots) ⌝ }
+{
+    let zero = [0u8; 16];
+    let found = scan_table(l, l.clock, zero, 0);
+    found.pending
+}
+
+// The pending number; 0 for a listener that was never started.
+pub fn pending(l: Listener) -> u32
+    ensures { λ r. ⌜ r ≡ pendingNumber l ⌝ }
+{
+    let home = l.home;
+    if home.started {
+        return count_pending(l);
+    }
+    0
+}

@@ -1,0 +1,206 @@
+// The checks of the calls, in document 01's order.
+use crate::address::is_address;
+use crate::address::size_of;
+use crate::state::Home;
+use crate::state::Settings;
+use crate::state::View;
+use crate::state::is_late;
+use crate::table::Slot;
+use crate::table::accepted_with;
+use crate::table::is_free;
+use crate::table::is_waiting;
+use segment::checksum::is_checksum_right;
+use segment::header::Header;
+use segment::header::Kind;
+use segment::header::Shape;
+use segment::header::read_header;
+use segment::refusal::Check;
+use segment::refusal::Refusal;
+use segment::sequence::in_window;
+use segment::sequence::next_after;
+ghost use mathlib.Core.Path.{_≡_};
+ghost use mathlib.Core.List.{_++_};
+ghost use Rattle.segment.specs.Refusal.{refusal};
+ghost use Rattle.segment.specs.Header.{fieldsOf};
+ghost use Rattle.listener.specs.View.{isLate};
+ghost use Rattle.listener.specs.Refusals.{inRange, repeats, completes, resets, expected, timely, addressed, roomy, numbersChecks, kindChecks, wireChecks, received};
+
+// 13 and 5.
+pub(crate) fn check_time(home: Home, clock: u64, time: u64) -> Check
+    ensures { λ r. ⌜ r ≡ refusal (timely home (isLate clock time)) ⌝ }
+{
+    if !home.started {
+        return Check::Refused(Refusal::NotStarted);
+    }
+    if is_late(clock, time) {
+        return Check::Refused(Refusal::Time);
+    }
+    Check::Clear
+}
+
+// 13, 5 and 2.
+pub(crate) fn check_name(home: Home, clock: u64, time: u64, addr: &[u8]) -> Check
+    ensures { λ r. ⌜ r ≡ refusal (timely home (isLate clock time) ++ addressed home (now (addr .entry))) ⌝ }
+{
+    match check_time(home, clock, time) {
+        Check::Refused(why) => Check::Refused(why),
+        Check::Clear => {
+            let family = home.family;
+            if is_address(family, addr) {
+                Check::Clear
+            } else {
+                Check::Refused(Refusal::Address)
+            }
+        }
+    }
+}
+
+// 13, 5, 2 and 11: the longest answer has 36 bytes.
+pub(crate) fn check_output(home: Home, clock: u64, time: u64, addr: &[u8], room: usize) -> Check
+    ensures { λ r. ⌜ r ≡ refusal (timely home (isLate clock time) ++ addressed home (now (addr .entry)) ++ roomy room) ⌝ }
+{
+    match check_name(home, clock, time, addr) {
+        Check::Refused(why) => Check::Refused(why),
+        Check::Clear => {
+            if room < 36 {
+                Check::Refused(Refusal::Output)
+            } else {
+                Check::Clear
+            }
+        }
+    }
+}
+
+// A segment that passed the checks before its kind, or the refusal.
+pub(crate) enum Received {
+    Dropped(Refusal),
+    Read(Header),
+}
+
+// 13, 5, 2, 11, 1, 3 and 4.
+pub(crate) fn receive(
+    home: Home,
+    clock: u64,
+    time: u64,
+    src: &[u8],
+    seg: &[u8],
+    room: usize,
+) -> Received
+    ensures { λ r. ⌜ r ≡ received (refusal (wireChecks home (isLate clock time) (now (src .entry)) (now (seg .entry)) room)) (fieldsOf (now (seg .entry))) ⌝ }
+{
+    match check_output(home, clock, time, src, room) {
+        Check::Refused(why) => Received::Dropped(why),
+        Check::Clear => match read_header(seg) {
+            Shape::Malformed => Received::Dropped(Refusal::Format),
+            Shape::WellFormed(h) => {
+                let family = home.family;
+                let own = home.own;
+                let n = size_of(family);
+                if !is_checksum_right(src, &own[..n], seg) {
+                    return Received::Dropped(Refusal::Checksum);
+                }
+                if h.dest != home.port {
+                    return Received::Dropped(Refusal::Port);
+                }
+                Received::Read(h)
+            }
+        },
+    }
+}
+
+// Whether an opening repeats the one that the slot was made for.
+fn is_repeat(s: Slot, h: Header) -> bool
+    ensures { λ r. ⌜ r ≡ repeats s h ⌝ }
+{
+    let status = s.status;
+    if !is_waiting(status) {
+        return false;
+    }
+    h.seq == s.irs
+}
+
+// The sequence number that the peer's next segment is to have.
+fn expected_of(s: Slot) -> u32
+    ensures { λ r. ⌜ r ≡ expected s ⌝ }
+{
+    let status = s.status;
+    next_after(s.irs, accepted_with(status))
+}
+
+fn is_completion(s: Slot, h: Header) -> bool
+    ensures { λ r. ⌜ r ≡ completes s h ⌝ }
+{
+    if !in_window(expected_of(s), h.seq) {
+        return false;
+    }
+    h.ack == next_after(s.iss, 0)
+}
+
+fn is_reset(s: Slot, h: Header) -> bool
+    ensures { λ r. ⌜ r ≡ resets s h ⌝ }
+{
+    h.seq == expected_of(s)
+}
+
+// 7 and 8.
+fn check_syn(v: View, h: Header) -> Check
+    ensures { λ r. ⌜ r ≡ refusal (kindChecks v h Kind.Syn) ⌝ }
+{
+    let slot = v.slot;
+    let status = slot.status;
+    if is_free(status) {
+        if v.room {
+            return Check::Clear;
+        }
+        return Check::Refused(Refusal::TableFull);
+    }
+    if is_repeat(slot, h) {
+        return Check::Clear;
+    }
+    Check::Refused(Refusal::NameInUse)
+}
+
+// 9 and 10, where `admitted` is whether the numbers are.
+fn check_numbers(s: Slot, admitted: bool) -> Check
+    ensures { λ r. ⌜ r ≡ refusal (numbersChecks s admitted) ⌝ }
+{
+    let status = s.status;
+    if !is_waiting(status) {
+        return Check::Refused(Refusal::NoConnection);
+    }
+    if !admitted {
+        return Check::Refused(Refusal::Sequence);
+    }
+    Check::Clear
+}
+
+// 6, 7, 9, 8 and 10.
+pub(crate) fn check_kind(v: View, h: Header, kind: Kind) -> Check
+    ensures { λ r. ⌜ r ≡ refusal (kindChecks v h kind) ⌝ }
+{
+    let slot = v.slot;
+    match kind {
+        Kind::Syn => check_syn(v, h),
+        Kind::Ack => check_numbers(slot, is_completion(slot, h)),
+        Kind::Rst => check_numbers(slot, is_reset(slot, h)),
+        Kind::Other => Check::Refused(Refusal::Flags),
+    }
+}
+
+pub(crate) fn is_in_range(g: Settings) -> bool
+    ensures { λ r. ⌜ r ≡ inRange g ⌝ }
+{
+    if 64 < g.limit {
+        return false;
+    }
+    if 1460 < g.room {
+        return false;
+    }
+    if 65535 < g.hold {
+        return false;
+    }
+    if g.mss < 536 {
+        return false;
+    }
+    g.mss <= 1460
+}

@@ -1,0 +1,104 @@
+// The Fast Open cookie: made, compared, and weighed for an opening.
+use crate::state::Keys;
+use cipher::encrypt;
+use segment::options::FastOpen;
+use segment::options::cookie;
+ghost use mathlib.Core.Path.{_≡_};
+ghost use mathlib.Core.Bool.{true, false, _&&_, not};
+ghost use Rattle.listener.specs.Lists.{sameBytes};
+ghost use Rattle.listener.specs.Cookie.{cookieUnder, found, counts, rightUnder, right, weighed};
+
+// The cookie of an address, by its block, under a key's round keys.
+pub(crate) fn make_cookie(round_keys: [u8; 176], b: [u8; 16]) -> [u8; 8]
+    ensures { λ r. ⌜ r ≡ cookieUnder «round_keys» b ⌝ }
+{
+    let c = encrypt(round_keys, b);
+    [c[0], c[1], c[2], c[3], c[4], c[5], c[6], c[7]]
+}
+
+// Whether these bytes are that cookie. Every byte is compared, with no early exit.
+fn is_cookie(given: &[u8], cookie: [u8; 8]) -> bool
+    ensures { λ r. ⌜ r ≡ sameBytes (now (given .entry)) cookie ⌝ }
+{
+    if given.len() != 8 {
+        return false;
+    }
+    let mut same = true;
+    for i in 0..8 {
+        if given[i] != cookie[i] {
+            same = false;
+        }
+    }
+    same
+}
+
+// What is made of an opening's Fast Open option: whether its cookie is right, and whether a fresh one is to go with the answer.
+pub(crate) struct Offer {
+    pub right: bool,
+    pub fresh: bool,
+    pub cookie: [u8; 8],
+}
+
+// No option that counts, or no cookies now.
+fn no_offer() -> Offer
+    ensures { λ r. ⌜ (r .right ≡ false) × (r .fresh ≡ false) ⌝ }
+{
+    Offer {
+        right: false,
+        fresh: false,
+        cookie: [0u8; 8],
+    }
+}
+
+// A cookie that was given is right under the present key, or under the previous one, and is then replaced. The previous key's block is
+// computed only where the present one's cookie did not match.
+fn weigh(keys: Keys, b: [u8; 16], given: &[u8]) -> Offer
+    ensures { λ r. ⌜ r ≡ weighed keys b (now (given .entry)) ⌝ }
+{
+    let present = keys.present;
+    let fresh = make_cookie(present, b);
+    if is_cookie(given, fresh) {
+        return Offer {
+            right: true,
+            fresh: false,
+            cookie: fresh,
+        };
+    }
+    if !keys.rotated {
+        return Offer {
+            right: false,
+            fresh: true,
+            cookie: fresh,
+        };
+    }
+    let previous = keys.previous;
+    let old = make_cookie(previous, b);
+    Offer {
+        right: is_cookie(given, old),
+        fresh: true,
+        cookie: fresh,
+    }
+}
+
+// What is made of the option that was found in an area. Where cookies do not run, nothing is computed.
+pub(crate) fn consider(run: bool, keys: Keys, b: [u8; 16], area: &[u8], fast: FastOpen) -> Offer
+    ensures { λ r. ⌜ r .right ≡ run && right keys b (found fast (now (area .entry))) ⌝ }
+    ensures { λ r. ⌜ r .fresh ≡ run && (counts (found fast (now (area .entry))) && not (rightUnder (keys .present) b (found fast (now (area .entry))))) ⌝ }
+    ensures { λ r. ⌜ (r .fresh ≡ true → r .cookie ≡ cookieUnder (keys .present) b) ⌝ }
+{
+    if !run {
+        return no_offer();
+    }
+    match fast {
+        FastOpen::Absent => no_offer(),
+        FastOpen::Request => {
+            let present = keys.present;
+            Offer {
+                right: false,
+                fresh: true,
+                cookie: make_cookie(present, b),
+            }
+        }
+        FastOpen::Cookie { at, len } => weigh(keys, b, cookie(area, FastOpen::Cookie { at, len })),
+    }
+}

@@ -1,0 +1,138 @@
+// What a segment that was not refused does to its connection.
+use crate::answer::Event;
+use crate::cookie::consider;
+use crate::state::View;
+use crate::table::Slot;
+use crate::table::Status;
+use crate::table::after_reset;
+use crate::table::is_free;
+use crate::table::turned_to;
+use segment::header::Header;
+use segment::header::Kind;
+use segment::header::option_area;
+use segment::header::payload;
+use segment::options::segment_options;
+ghost use mathlib.Core.Path.{_≡_};
+ghost use mathlib.Core.Bool.{true, false};
+ghost use Prim.Native.Nat.{_≤_, _^_, min};
+ghost use lib.ListN.{length};
+ghost use Rattle.segment.specs.Header.{payloadOf};
+ghost use Rattle.listener.specs.Table.{newSlot};
+ghost use Rattle.listener.specs.Cookie.{cookieUnder};
+ghost use Rattle.listener.specs.Step.{cookiesRun, isEarly, newEvent, segmentEvent, slotAfter, freshWith};
+
+// What happened, the connection's slot after it, and the fresh cookie if one goes with the answer.
+pub(crate) struct Action {
+    pub event: Event,
+    pub slot: Slot,
+    pub fresh: bool,
+    pub cookie: [u8; 8],
+}
+
+// An action that gives no cookie.
+fn without_cookie(event: Event, slot: Slot) -> Action
+    ensures { λ r. ⌜ (r .event ≡ event) × (r .slot ≡ slot) × (r .fresh ≡ false) ⌝ }
+{
+    Action {
+        event,
+        slot,
+        fresh: false,
+        cookie: [0u8; 8],
+    }
+}
+
+// How many bytes of a payload are accepted: no more than the early room.
+fn accept(payload: &[u8], room: u32) -> u32
+    ensures { λ r. ⌜ r ≡ min (length (now (payload .entry))) room ⌝ }
+{
+    let n = payload.len();
+    if n < room as usize {
+        return n as u32;
+    }
+    room
+}
+
+fn new_slot(b: [u8; 16], h: Header, iss: u32, status: Status) -> Slot
+    ensures { λ r. ⌜ r ≡ newSlot b (h .source) (h .seq) iss status ⌝ }
+{
+    Slot {
+        addr: b,
+        port: h.source,
+        irs: h.seq,
+        iss,
+        status,
+    }
+}
+
+// Cookies are taken and given while Fast Open is on and pending is below the limit.
+fn cookies_run(v: View) -> bool
+    ensures { λ r. ⌜ r ≡ cookiesRun v ⌝ }
+{
+    let g = v.settings;
+    if g.on { v.below } else { false }
+}
+
+// A new connection.
+fn open_new(v: View, time: u64, b: [u8; 16], h: Header, iss: u32, seg: &[u8]) -> Action
+    ensures { λ r. ⌜ r .event ≡ newEvent (isEarly v b (now (seg .entry))) (min (length (payloadOf (now (seg .entry)))) (v .settings .room)) ⌝ }
+    ensures { λ r. ⌜ r .slot ≡ slotAfter v time b h iss (newEvent (isEarly v b (now (seg .entry))) (min (length (payloadOf (now (seg .entry)))) (v .settings .room))) ⌝ }
+    ensures { λ r. ⌜ r .fresh ≡ freshWith v b (now (seg .entry)) (newEvent (isEarly v b (now (seg .entry))) (min (length (payloadOf (now (seg .entry)))) (v .settings .room))) ⌝ }
+    ensures { λ r. ⌜ (r .fresh ≡ true → r .cookie ≡ cookieUnder (v .keys .present) b) ⌝ }
+{
+    let keys = v.keys;
+    let options = segment_options(seg);
+    let fast = options.fast;
+    let offer = consider(cookies_run(v), keys, b, option_area(seg), fast);
+    let cookie = offer.cookie;
+    if offer.right {
+        let g = v.settings;
+        let n = accept(payload(seg), g.room);
+        return Action {
+            event: Event::FastOpen(n),
+            slot: new_slot(b, h, iss, Status::FastOpen(n)),
+            fresh: offer.fresh,
+            cookie,
+        };
+    }
+    Action {
+        event: Event::Regular,
+        slot: new_slot(b, h, iss, Status::SynReceived),
+        fresh: offer.fresh,
+        cookie,
+    }
+}
+
+// What a segment of a kind does.
+pub(crate) fn act(
+    v: View,
+    time: u64,
+    b: [u8; 16],
+    h: Header,
+    iss: u32,
+    seg: &[u8],
+    kind: Kind,
+) -> Action
+    requires { ⌜ time ≤ 2 ^ 48 ⌝ }
+    ensures { λ r. ⌜ r .event ≡ segmentEvent v b (now (seg .entry)) kind ⌝ }
+    ensures { λ r. ⌜ r .slot ≡ slotAfter v time b h iss (segmentEvent v b (now (seg .entry)) kind) ⌝ }
+    ensures { λ r. ⌜ r .fresh ≡ freshWith v b (now (seg .entry)) (segmentEvent v b (now (seg .entry)) kind) ⌝ }
+    ensures { λ r. ⌜ (r .fresh ≡ true → r .cookie ≡ cookieUnder (v .keys .present) b) ⌝ }
+{
+    let slot = v.slot;
+    let status = slot.status;
+    match kind {
+        Kind::Syn => {
+            if is_free(status) {
+                return open_new(v, time, b, h, iss, seg);
+            }
+            without_cookie(Event::Retransmission, slot)
+        }
+        Kind::Ack => without_cookie(Event::Completed, turned_to(slot, Status::Established)),
+        Kind::Rst => {
+            let g = v.settings;
+            let end = time + (g.hold as u64);
+            without_cookie(Event::WasReset, turned_to(slot, after_reset(end, status)))
+        }
+        Kind::Other => without_cookie(Event::Done, slot),
+    }
+}
