@@ -1,7 +1,7 @@
 -- What a Fast Open option comes to, and what a segment does: from what the functions on the way ensure. Assumes nothing.
 use Prim.Native.Nat.{ℕ, min}
-use mathlib.Core.Path.{_≡_, refl, sym, ap, _∙_, subst}
-use mathlib.Core.Bool.{Bool, true, false, cond, not, _&&_, _||_, false≢true}
+use mathlib.Core.Path.{_≡_, refl, sym, _∙_, subst}
+use mathlib.Core.Bool.{Bool, true, false, not, _&&_, false≢true}
 use mathlib.Core.List.{List}
 use lib.ListN.{length}
 use Rattle.segment.specs.Header.{optionArea, payloadOf}
@@ -10,12 +10,12 @@ use Rattle.segment.specs.declared.header.Header.{Header}
 use Rattle.segment.specs.declared.options.Options.{Options}
 use Rattle.listener.specs.Lists.{sameBytes}
 use Rattle.listener.specs.Table.{newSlot}
-use Rattle.listener.specs.Cookie.{Carried, nothing, request, cookie, found, carriedBy, counts, cookieUnder, rightUnder, right, weighed}
+use Rattle.listener.specs.Cookie.{Carried, nothing, request, cookie, found, carriedBy, counts, cookieUnder, rightUnder, right, cookieCheck}
 use Rattle.listener.specs.Step.{cookiesRun, isEarly, isFresh, newEvent, slotAfter, freshWith}
 use Rattle.listener.specs.declared.state.Keys.{Keys}
 use Rattle.listener.specs.declared.state.View.{View}
-use Rattle.listener.specs.declared.cookie.Offer.{Offer}
-use Rattle.listener.specs.declared.opening.Action.{Action}
+use Rattle.listener.specs.declared.cookie.OptionCheck.{OptionCheck}
+use Rattle.listener.specs.declared.action.Action.{Action}
 use Rattle.listener.specs.declared.answer.Event.{Event}
 use Rattle.listener.specs.declared.answer.Event.the-variants as events
 use Rattle.listener.specs.declared.table.Slot.{Slot}
@@ -23,27 +23,27 @@ use Rattle.listener.specs.declared.table.Status.the-variants as statuses
 
 -- A cookie that was given: it is the present key's, or there is no other key, or it is compared with the previous key's.
 module _ (k : Keys) (b given : List ℕ) {f : List ℕ} (e : f ≡ cookieUnder (k .present) b) where
-  pub weighed-present : sameBytes given f ≡ true → _≡_ {A = Offer} (record { right = true; fresh = false; cookie = f }) (weighed k b given)
+  pub cookie-present : sameBytes given f ≡ true → _≡_ {A = OptionCheck} (record { right = true; fresh = false; cookie = f }) (cookieCheck k b given)
   unfolding right rightUnder
-  weighed-present s = rw (e, (rw e at s))
+  cookie-present s = rw (e, (rw e at s))
 
-  pub weighed-alone : sameBytes given f ≡ false → k .rotated ≡ false → _≡_ {A = Offer} (record { right = false; fresh = true; cookie = f }) (weighed k b given)
+  pub cookie-alone : sameBytes given f ≡ false → k .rotated ≡ false → _≡_ {A = OptionCheck} (record { right = false; fresh = true; cookie = f }) (cookieCheck k b given)
   unfolding right rightUnder
-  weighed-alone s r = rw (e, (rw e at s), r)
+  cookie-alone s r = rw (e, (rw e at s), r)
 
-  pub weighed-before : sameBytes given f ≡ false → k .rotated ≡ true → {g : List ℕ} {same : Bool} → g ≡ cookieUnder (k .previous) b → same ≡ sameBytes given g
-      → _≡_ {A = Offer} (record { right = same; fresh = true; cookie = f }) (weighed k b given)
+  pub cookie-previous : sameBytes given f ≡ false → k .rotated ≡ true → {g : List ℕ} {same : Bool} → g ≡ cookieUnder (k .previous) b → same ≡ sameBytes given g
+      → _≡_ {A = OptionCheck} (record { right = same; fresh = true; cookie = f }) (cookieCheck k b given)
   unfolding right rightUnder
-  weighed-before s r p q = rw (e, (rw e at s), r, q, p)
+  cookie-previous s r p q = rw (e, (rw e at s), r, q, p)
 
 -- what an offer is to be, where cookies run or not
-abbrev pub Considered : Bool → Keys → List ℕ → Carried → Offer → Type 0
+abbrev pub Considered : Bool → Keys → List ℕ → Carried → OptionCheck → Type 0
 Considered run k b o r =
     (r .right ≡ run && right k b o)
     × ((r .fresh ≡ run && (counts o && not (rightUnder (k .present) b o)))
     × (r .fresh ≡ true → r .cookie ≡ cookieUnder (k .present) b))
 
-module _ (run : Bool) (k : Keys) (b : List ℕ) (r : Offer) where
+module _ (run : Bool) (k : Keys) (b : List ℕ) (r : OptionCheck) where
   none-fresh : r .fresh ≡ false → r .fresh ≡ true → r .cookie ≡ cookieUnder (k .present) b
   none-fresh f t = absurd (false≢true (sym f ∙ t))
 
@@ -71,7 +71,7 @@ module _ (run : Bool) (k : Keys) (b : List ℕ) (r : Offer) where
       never true = refl
       never false = refl
 
-  pub considered-cookie : (given : List ℕ) → run ≡ true → r ≡ weighed k b given → Considered run k b (cookie given) r
+  pub considered-cookie : (given : List ℕ) → run ≡ true → r ≡ cookieCheck k b given → Considered run k b (cookie given) r
   considered-cookie given n e = (rw (n, e), (rw (n, e), λ _. rw e))
 
 -- What a segment's action is to be, by its event
@@ -92,7 +92,7 @@ module _ (v : View) (t : ℕ) (b : List ℕ) (h : Header) (iss : ℕ) (seg : Lis
   acts-quiet e r q x s f = (x, (s, (f ∙ sym q, λ y. absurd (false≢true (sym f ∙ y)))))
 
   -- the offer of a new opening
-  module _ (o : Offer) (options : Options) (area : List ℕ) (run : Bool)
+  module _ (o : OptionCheck) (options : Options) (area : List ℕ) (run : Bool)
       (eo : options ≡ optionsOf seg) (ea : area ≡ optionArea seg) (er : run ≡ cookiesRun v) (c : Considered run (v .keys) b (found (options .fast) area) o) where
     offer-right : o .right ≡ isEarly v b seg
     unfolding isEarly carriedBy

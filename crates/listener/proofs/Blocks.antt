@@ -1,9 +1,8 @@
 -- Bytes copied into an array of zeros, and the front of a block. Assumes nothing.
 use Prim.Native.Nat.{ℕ, zero, suc, _-_, _≤_}
-use mathlib.Core.Path.{_≡_, refl, sym, ap, _∙_}
+use mathlib.Core.Path.{_≡_, refl, ap, _∙_}
 use mathlib.Core.List.{List, [], _∷_, _++_, append-nil}
 use native.Mathlib.Omega.{arith}
-use native.Mathlib.Nat.{not-suc-le-zero}
 use native.Mathlib.Numerals.{unary-clauses}
 use lib.ListN.{length, take, drop, getD, replicate, drop-of-length-le, length-replicate}
 use lib.Seq.{take-all}

@@ -20,11 +20,11 @@ use Rattle.segment.proofs.Bools.{and-true, or-false}
 use Rattle.segment.proofs.Exchange.{answer-without}
 use Rattle.listener.specs.Address.{Peer, isAddress, block}
 use Rattle.listener.specs.Cookie.{cookieUnder}
-use Rattle.listener.specs.Table.{isWaiting, turned, scanOf}
+use Rattle.listener.specs.Table.{isWaiting, withStatus, scanOf}
 use Rattle.listener.specs.Call.{Call, segment, settings, key, abandon, resend, close, sender}
-use Rattle.listener.specs.View.{isLate, ownAddress, viewFrom, view}
+use Rattle.listener.specs.View.{isUntimely, ownAddress, viewFrom, view}
 use Rattle.listener.specs.Refusals.{inRange, isKey, isReleasable, releaseOf, timely, addressed, roomy, kindChecks, wireChecks, judged, received}
-use Rattle.listener.specs.Step.{segmentEvent, slotAfter, freshWith, answerFrom, answerTo, isAnswered, segmentOutput, segmentAfter, moved, put, freed, inForce, rotated, after, step, outputOf}
+use Rattle.listener.specs.Step.{segmentEvent, slotAfter, freshWith, answerFrom, answerTo, isAnswered, segmentOutput, segmentAfter, moved, put, freed, inForce, withKey, after, step, outputOf}
 use Rattle.listener.specs.declared.address.Family.{Family}
 use Rattle.listener.specs.declared.address.Family.the-variants.{V4, V6}
 use Rattle.listener.specs.declared.state.Settings.{Settings}
@@ -34,7 +34,7 @@ use Rattle.listener.specs.declared.state.Listener.{Listener}
 use Rattle.listener.specs.declared.answer.Event.{Event}
 use Rattle.listener.specs.declared.answer.Event.the-variants as events
 use Rattle.listener.specs.declared.answer.Outcome.{Outcome}
-use Rattle.listener.specs.declared.opening.Action.{Action}
+use Rattle.listener.specs.declared.action.Action.{Action}
 use Rattle.listener.specs.declared.checks.Received.the-variants.{Dropped, Read}
 use Rattle.listener.specs.declared.table.Status.the-variants.{Free}
 use Rattle.listener.specs.declared.table.Slot.{Slot}
@@ -57,7 +57,7 @@ any-cookie own a v s false c d room e = answer-without own a (answerFrom (v .hom
 
 module _ (l : Listener) (t : ℕ) where
   abbrev Timely : Check
-  Timely = refusal (timely (l .home) (isLate (l .clock) t))
+  Timely = refusal (timely (l .home) (isUntimely (l .clock) t))
 
   -- Settings
 
@@ -91,7 +91,7 @@ module _ (l : Listener) (t : ℕ) where
           step-refused l (key t k) (passed _ _ _ (judged-key l t k) first ∙ at)
 
       pub key-done : length k ≡ 16
-          → step l (key t k) ≡ doneWith (record { slots = l .slots; keys = rotated (l .keys) k; home = l .home; settings = l .settings; clock = t })
+          → step l (key t k) ≡ doneWith (record { slots = l .slots; keys = withKey (l .keys) k; home = l .home; settings = l .settings; clock = t })
       unfolding after
       key-done e =
           let at : cond (not (isKey k)) (Refused Range) Clear ≡ Clear = rw (eq-eqb _ _ e) in
@@ -101,7 +101,7 @@ module _ (l : Listener) (t : ℕ) where
 
   module _ (a : List ℕ) (p : ℕ) where
     abbrev Named : Check
-    Named = refusal (timely (l .home) (isLate (l .clock) t) ++ addressed (l .home) a)
+    Named = refusal (timely (l .home) (isUntimely (l .clock) t) ++ addressed (l .home) a)
 
     abbrev peer : Peer
     peer = record { address = a; port = p }
@@ -128,7 +128,7 @@ module _ (l : Listener) (t : ℕ) where
 
     module _ (room : ℕ) where
       abbrev Roomy : Check
-      Roomy = refusal (timely (l .home) (isLate (l .clock) t) ++ addressed (l .home) a ++ roomy room)
+      Roomy = refusal (timely (l .home) (isUntimely (l .clock) t) ++ addressed (l .home) a ++ roomy room)
 
       abbrev v : View
       v = view l t peer
@@ -159,7 +159,7 @@ module _ (l : Listener) (t : ℕ) where
 
   module _ (src seg : List ℕ) (iss room : ℕ) where
     abbrev Wired : Check
-    Wired = refusal (wireChecks (l .home) (isLate (l .clock) t) src seg room)
+    Wired = refusal (wireChecks (l .home) (isUntimely (l .clock) t) src seg room)
 
     abbrev this : Call
     this = segment t src seg iss room
@@ -239,7 +239,7 @@ module _ (l : Listener) (t : ℕ) (a : List ℕ) (p : ℕ) {b : List ℕ} {scan 
   pub view-is : v′ ≡ view l t (record { address = a; port = p })
   view-is = rw (ev, ef, eb)
 
-  pub freed-is : {s : Slot} {n : Listener} → s ≡ turned (v′ .slot) Free → n ≡ put l t (scan .place) s → n ≡ freed l t (record { address = a; port = p })
+  pub freed-is : {s : Slot} {n : Listener} → s ≡ withStatus (v′ .slot) Free → n ≡ put l t (scan .place) s → n ≡ freed l t (record { address = a; port = p })
   freed-is e m = rw (m, e, ev, ef, eb)
 
 -- a resent answer, from the slot that was looked up
@@ -260,7 +260,7 @@ module _ (l : Listener) (t : ℕ) (a : List ℕ) (p room : ℕ) (out : List ℕ)
       (rw (en, f .0) (sym (q .0)), f .1 ∙ ap (λ (z : List ℕ). overwrite z out) (sym (q .1)))
 
 -- A segment that passed the checks before its kind, with what was read and looked up
-module _ (l : Listener) (t : ℕ) (src seg : List ℕ) (iss room : ℕ) (first : refusal (wireChecks (l .home) (isLate (l .clock) t) src seg room) ≡ Clear)
+module _ (l : Listener) (t : ℕ) (src seg : List ℕ) (iss room : ℕ) (first : refusal (wireChecks (l .home) (isUntimely (l .clock) t) src seg room) ≡ Clear)
     {h : Header} {b : List ℕ} {scan : Scan} {v′ : View} {k : Kind} (eh : h ≡ fieldsOf seg) (eb : b ≡ block src) (ef : scan ≡ scanOf t b (h .source) (l .slots))
     (ev : v′ ≡ viewFrom l t scan) (ek : k ≡ kindOf (h .flags)) where
   pub taken-refused : {r : Refusal} → refusal (kindChecks v′ h k) ≡ Refused r
@@ -295,21 +295,21 @@ family-short : (f : Family) (a : List ℕ) → not (isAddress f a) ≡ false →
 family-short V4 a e = omega (arith, eqb-true (length a) 4 (not-false _ e))
 family-short V6 a e = omega (arith, eqb-true (length a) 16 (not-false _ e))
 
-module _ (h : Home) (late : Bool) (a : List ℕ) where
-  pub named-short : refusal (timely h late ++ addressed h a) ≡ Clear → length a ≤ 16
-  named-short e = family-short (h .family) a (every-check (timely h late ++ addressed h a) e .1 .1 .0)
+module _ (h : Home) (untimely : Bool) (a : List ℕ) where
+  pub named-short : refusal (timely h untimely ++ addressed h a) ≡ Clear → length a ≤ 16
+  named-short e = family-short (h .family) a (every-check (timely h untimely ++ addressed h a) e .1 .1 .0)
 
-  pub roomy-short : (room : ℕ) → refusal (timely h late ++ addressed h a ++ roomy room) ≡ Clear → length a ≤ 16
-  roomy-short room e = family-short (h .family) a (every-check (timely h late ++ addressed h a ++ roomy room) e .1 .1 .0)
+  pub roomy-short : (room : ℕ) → refusal (timely h untimely ++ addressed h a ++ roomy room) ≡ Clear → length a ≤ 16
+  roomy-short room e = family-short (h .family) a (every-check (timely h untimely ++ addressed h a ++ roomy room) e .1 .1 .0)
 
-  pub wired-short : (seg : List ℕ) (room : ℕ) → refusal (wireChecks h late a seg room) ≡ Clear → length a ≤ 16
-  wired-short seg room e = family-short (h .family) a (every-check (wireChecks h late a seg room) e .1 .1 .0)
+  pub wired-short : (seg : List ℕ) (room : ℕ) → refusal (wireChecks h untimely a seg room) ≡ Clear → length a ≤ 16
+  wired-short seg room e = family-short (h .family) a (every-check (wireChecks h untimely a seg room) e .1 .1 .0)
 
-  pub wired-timely : (seg : List ℕ) (room : ℕ) → refusal (wireChecks h late a seg room) ≡ Clear → late ≡ false
-  wired-timely seg room e = every-check (wireChecks h late a seg room) e .1 .0
+  pub wired-timely : (seg : List ℕ) (room : ℕ) → refusal (wireChecks h untimely a seg room) ≡ Clear → untimely ≡ false
+  wired-timely seg room e = every-check (wireChecks h untimely a seg room) e .1 .0
 
--- a time that is not late
-pub time-most : (clock t : ℕ) → isLate clock t ≡ false → t ≤ 2 ^ 48
+-- a time that is not untimely
+pub time-most : (clock t : ℕ) → isUntimely clock t ≡ false → t ≤ 2 ^ 48
 time-most clock t e = ltb-false (2 ^ 48) t (or-false (ltb t clock) (ltb (2 ^ 48) t) e .1)
 
 -- settings in range have an MSS of two bytes

@@ -20,28 +20,28 @@ use Rattle.segment.proofs.Numbers as numbers
 use Rattle.listener.specs.Lists.{bit, sum, tally, amend}
 use Rattle.listener.specs.Address.{Peer, size, block}
 use Rattle.listener.specs.Cookie.{Carried, carriedBy, rightUnder, right}
-use Rattle.listener.specs.Table.{isLive, isWaiting, isEstablished, isFree, afterReset, freeSlot, newSlot, turned, holds, pendingAt}
+use Rattle.listener.specs.Table.{isLive, isWaiting, isEstablished, isFree, afterReset, freeSlot, newSlot, withStatus, holdsPeer, pendingAt}
 use Rattle.listener.specs.Call.{Call, segment, settings, key, abandon, resend, close, sender, timeOf, numberOfEvent, verdictOf, acceptedOf, acceptedPart, early}
-use Rattle.listener.specs.View.{isLate, known, scanFor, view, viewOf}
+use Rattle.listener.specs.View.{isUntimely, known, scanFor, view, viewOf}
 use Rattle.listener.specs.Refusals.{timely, addressed, kindChecks, checks, judged}
 use Rattle.listener.specs.Step as steps
-use Rattle.listener.specs.Step.{familyOf, fresh, startChecks, startedBy, startOf, newEvent, openingEvent, segmentEvent, doneEvent, slotAfter, moved, put, segmentAfter, freed, inForce, after, answered, step, pendingNumber}
-use Rattle.listener.specs.Journal.{Mark, isPlain, isEarly, isOpen, isHeld, Entry, PreviousKey, noKey, aKey, Journal, begun, pendingOf, named, has, kept, only, struck, completed, resetMark, wasReset, with, amended, rightBefore, hasRight, opensEarly, newMark, opened, turnedTo, segmentWritten, written, feed, Said, saysNew, saysOpening, saysSegment, saysDone, says}
-use Rattle.listener.specs.Demand3.{segmentOf, told, listenerAfter, answers, numbered, journalAfter, sayings, Demand3}
+use Rattle.listener.specs.Step.{familyOf, freshListener, startChecks, startedBy, startOf, newEvent, openingEvent, segmentEvent, doneEvent, slotAfter, moved, put, segmentAfter, freed, inForce, after, outcomeOf, step, pendingNumber}
+use Rattle.listener.specs.Journal.{Mark, markPlain, markEarly, markOpen, markHeld, Entry, PreviousKey, noKey, aKey, Journal, begun, pendingOf, named, has, kept, only, struck, completed, resetMark, wasReset, with, amended, rightBefore, hasRight, opensEarly, newMark, opened, turnedTo, segmentNoted, noted, feed, Said, saysNew, saysOpening, saysSegment, saysDone, says}
+use Rattle.listener.specs.Demand3.{segmentOf, answerSays, listenerAfter, answers, numbered, journalAfter, sayings, Demand3}
 use Rattle.listener.specs.declared.address.Family.{Family}
 use Rattle.listener.specs.declared.address.Family.the-variants.{V4, V6}
 use Rattle.listener.specs.declared.table.Status.{Status}
 use Rattle.listener.specs.declared.table.Status.the-variants.{Free, SynReceived, FastOpen, ResetHeld, Established}
 use Rattle.listener.specs.declared.table.Slot.{Slot}
 use Rattle.listener.specs.declared.state.Keys.{Keys}
-use Rattle.listener.specs.declared.state.View.{View}
 use Rattle.listener.specs.declared.state.Listener.{Listener}
 use Rattle.listener.specs.declared.answer.Event.{Event}
 use Rattle.listener.specs.declared.answer.Event.the-variants as events
 use Rattle.listener.proofs.Sums.{sum-zero, some-passes, first-passes, none-passes, All, all-set, all-at, all-replicate, sum-le-all}
 use Rattle.listener.proofs.Names.{one-test, short}
-use Rattle.listener.proofs.Match.{nameOf, entryFor, entryIn, by-entry, stands, Fits, holds-stands, Thins, Match, stands-tally, pending-same, match-add, Settled, settled, turned-on, pending-settled, settled-amend}
+use Rattle.listener.proofs.Match.{nameOf, entryFor, entryIn, by-entry, stands, Fits, holdsPeer-stands, Thins, Match, stands-tally, pending-same, match-add, Settled, settled, turned-on, pending-settled, settled-amend}
 use Rattle.listener.proofs.Clear.{Passed, every-check}
+use Rattle.listener.proofs.Events.{done-number}
 
 -- The journal beside a listener
 
@@ -66,7 +66,7 @@ record Agrees (l : Listener) (j : Journal) : Type 0 where
 -- after a call with this answer
 record Follows (c : Call) (l : Listener) (e : Event) (j : Journal) (s : Said) : Type 0 where
   agrees : Agrees l j
-  said : told c e ≡ s
+  said : answerSays c e ≡ s
 
 -- an answer that accepts nothing hands no byte over
 quiet : {c : Call} {l : Listener} {e : Event} {j : Journal} → acceptedOf e ≡ 0 → Agrees l j
@@ -82,7 +82,7 @@ quiet {c} {l} {e} {j} z a = record { agrees = a; said = λ i. record { verdict =
 
 -- a count within the payload is handed over whole
 handed : (c : Call) (n : ℕ) → n ≤ length (payloadOf (segmentOf c))
-    → told c (events.FastOpen n) ≡ record { verdict = early; accepted = n; part = take n (payloadOf (segmentOf c)) }
+    → answerSays c (events.FastOpen n) ≡ record { verdict = early; accepted = n; part = take n (payloadOf (segmentOf c)) }
 unfolding acceptedPart
 handed c n h = rw (le-ltb (length (payloadOf (segmentOf c))) n h)
 
@@ -124,10 +124,10 @@ reset-thins : (end : ℕ) → Thins (wasReset end)
 reset-thins end p e = go (e .mark)
   where
     go : (k : Mark) → tally (named p) (resetMark end (e .who) k) ≤ bit (named p e)
-    go isPlain = omega arith
-    go isEarly = omega arith
-    go isOpen = omega arith
-    go (isHeld u) = omega arith
+    go markPlain = omega arith
+    go markEarly = omega arith
+    go markOpen = omega arith
+    go (markHeld u) = omega arith
 
 -- A call that is clear
 
@@ -137,7 +137,7 @@ SegmentFollows l t src seg iss room e j s =
     let p = sender src seg in
     Follows (segment t src seg iss room) (segmentAfter l t (scanFor l t p) e (slotAfter (view l t p) t (block src) (fieldsOf seg) iss e)) e j s
 
-on-time : (l : Listener) (t : ℕ) → isLate (l .clock) t ≡ false → l .clock ≤ t
+on-time : (l : Listener) (t : ℕ) → isUntimely (l .clock) t ≡ false → l .clock ≤ t
 on-time l t e = ltb-false t (l .clock) (or-false _ _ e .0)
 
 module _ (l : Listener) (j : Journal) (t : ℕ) (a : Agrees l j) (forward : l .clock ≤ t) where
@@ -177,8 +177,8 @@ module _ (l : Listener) (j : Journal) (t : ℕ) (a : Agrees l j) (forward : l .c
 
     stands-at : scanFor l t p .place < length (l .slots) → stands (l .home .family) t p (view l t p .slot) ≡ true
     stands-at h =
-        sym (holds-stands (l .home .family) t p (view l t p .slot) home (fits-at h))
-        ∙ first-passes (holds t (block (p .address)) (p .port)) (l .slots) freeSlot h
+        sym (holdsPeer-stands (l .home .family) t p (view l t p .slot) home (fits-at h))
+        ∙ first-passes (holdsPeer t (block (p .address)) (p .port)) (l .slots) freeSlot h
 
     -- it has one if its slot is in a status that the free slot is not in
     placed : (q : Status → Bool) → q Free ≡ false → q (view l t p .slot .status) ≡ true → scanFor l t p .place < length (l .slots)
@@ -211,9 +211,9 @@ module _ (l : Listener) (j : Journal) (t : ℕ) (a : Agrees l j) (forward : l .c
               arith,
               ltb-true 0 entries e,
               stands-tally now p,
-              sum-le-all (Fits (l .home .family)) (λ s. bit (stands (l .home .family) t p s)) (λ s. bit (holds t (block (p .address)) (p .port) s))
-                  (λ s fit. omega (arith, ap bit (holds-stands (l .home .family) t p s home fit))) (l .slots) (a .table .fits),
-              none-passes (holds t (block (p .address)) (p .port)) (l .slots) (ltb-false _ _ q),
+              sum-le-all (Fits (l .home .family)) (λ s. bit (stands (l .home .family) t p s)) (λ s. bit (holdsPeer t (block (p .address)) (p .port) s))
+                  (λ s fit. omega (arith, ap bit (holdsPeer-stands (l .home .family) t p s home fit))) (l .slots) (a .table .fits),
+              none-passes (holdsPeer t (block (p .address)) (p .port)) (l .slots) (ltb-false _ _ q),
             ))
 
         back : known (view l t p) ≡ true → ltb 0 entries ≡ true
@@ -225,18 +225,18 @@ module _ (l : Listener) (j : Journal) (t : ℕ) (a : Agrees l j) (forward : l .c
     -- its slot gets another status, and its entry changes by a rule
     changed : (st : Status) (rule : Entry → List Entry) (q : Status → Bool) → q Free ≡ false → q (view l t p .slot .status) ≡ true → Thins rule
         → ((n : Peer) → entryFor t n st ≡ amend (λ e. amend (kept t) (rule e)) (entryFor t n (view l t p .slot .status)))
-        → Agrees (put l t (scanFor l t p .place) (turned (view l t p .slot) st)) (amended (turnedTo t j) p rule)
+        → Agrees (put l t (scanFor l t p .place) (withStatus (view l t p .slot) st)) (amended (turnedTo t j) p rule)
     changed st rule q free h thin e =
         let f = l .home .family in
         let es = turnedTo t j .entries in
         let i = scanFor l t p .place in
         let s = view l t p .slot in
         let there = placed q free h in
-        put-agrees l j t i (turned s st) (amend (only p rule) es) a (fits-at there)
-        (settled-amend f t (l .slots) es p rule i (turned s st) now thin there (stands-at there) (e (nameOf f s)))
+        put-agrees l j t i (withStatus s st) (amend (only p rule) es) a (fits-at there)
+        (settled-amend f t (l .slots) es p rule i (withStatus s st) now thin there (stands-at there) (e (nameOf f s)))
 
     -- a new connection takes the lowest free place
-    entered : (irs iss : ℕ) (st : Status) (k : Mark) → known (view l t p) ≡ false → view l t p .room ≡ true
+    entered : (irs iss : ℕ) (st : Status) (k : Mark) → known (view l t p) ≡ false → view l t p .vacant ≡ true
         → ((n : Peer) → entryFor t n st ≡ record { who = n; mark = k } ∷ [])
         → Agrees (put l t (scanFor l t p .free) (newSlot (block (p .address)) (p .port) irs iss st))
         (with (turnedTo t j) (record { who = p; mark = k } ∷ turnedTo t j .entries))
@@ -267,17 +267,17 @@ module _ (l : Listener) (j : Journal) (t : ℕ) (a : Agrees l j) (forward : l .c
 
   -- a segment from an address of the family
   module _ (src seg : List ℕ) (iss room : ℕ) (home : length src ≡ size (l .home .family)) where
-    new-follows : known (view l t (sender src seg)) ≡ false → view l t (sender src seg) .room ≡ true → (b : Bool)
+    new-follows : known (view l t (sender src seg)) ≡ false → view l t (sender src seg) .vacant ≡ true → (b : Bool)
         → SegmentFollows l t src seg iss room (newEvent b (min (length (payloadOf seg)) (l .settings .room)))
         (with (turnedTo t j) (record { who = sender src seg; mark = newMark b } ∷ turnedTo t j .entries)) (saysNew b (turnedTo t j) seg)
     new-follows new free true =
         record {
-          agrees = entered (sender src seg) home (fieldsOf seg .seq) iss (FastOpen (min (length (payloadOf seg)) (l .settings .room))) isEarly new free (λ m. refl);
+          agrees = entered (sender src seg) home (fieldsOf seg .seq) iss (FastOpen (min (length (payloadOf seg)) (l .settings .room))) markEarly new free (λ m. refl);
           said = rw (a .settings) (handed (segment t src seg iss room) (min (length (payloadOf seg)) (j .settings .room)) (omega arith));
         }
-    new-follows new free false = quiet refl (entered (sender src seg) home (fieldsOf seg .seq) iss SynReceived isPlain new free (λ m. refl))
+    new-follows new free false = quiet refl (entered (sender src seg) home (fieldsOf seg .seq) iss SynReceived markPlain new free (λ m. refl))
 
-    opening-follows : (k : Bool) → known (view l t (sender src seg)) ≡ k → (k || view l t (sender src seg) .room) ≡ true
+    opening-follows : (k : Bool) → known (view l t (sender src seg)) ≡ k → (k || view l t (sender src seg) .vacant) ≡ true
         → SegmentFollows l t src seg iss room (openingEvent k (view l t (sender src seg)) (block src) seg)
         (opened k (turnedTo t j) src seg) (saysOpening k (turnedTo t j) src seg)
     opening-follows true e free = quiet refl (moved-agrees l j t (l .slots) (turnedTo t j .entries) a unchanged)
@@ -285,8 +285,8 @@ module _ (l : Listener) (j : Journal) (t : ℕ) (a : Agrees l j) (forward : l .c
 
     by-kind : (k : Kind) → Passed (kindChecks (view l t (sender src seg)) (fieldsOf seg) k)
         → SegmentFollows l t src seg iss room (segmentEvent (view l t (sender src seg)) (block src) seg k)
-        (segmentWritten (turnedTo t j) src seg k) (saysSegment (turnedTo t j) src seg k)
-    unfolding segmentWritten saysSegment
+        (segmentNoted (turnedTo t j) src seg k) (saysSegment (turnedTo t j) src seg k)
+    unfolding segmentNoted saysSegment
     by-kind Syn q = rw (known-has (sender src seg) home) (opening-follows (known (view l t (sender src seg))) refl (not-false _ (q .1 .0)))
     by-kind Ack q =
         let waits = not-false _ (q .0) in
@@ -303,7 +303,7 @@ module _ (l : Listener) (j : Journal) (t : ℕ) (a : Agrees l j) (forward : l .c
 released : (l : Listener) (j : Journal) (t : ℕ) → Agrees l j → (b : List ℕ) (port : ℕ) (q : Status → Bool) → q Free ≡ false
     → let p : Peer = record { address = b; port = port } in
     let v = view l t p in
-    Passed (timely (v .home) (v .late) ++ addressed (v .home) b ++ ((NoConnection, not (q (v .slot .status))) ∷ []))
+    Passed (timely (v .home) (v .untimely) ++ addressed (v .home) b ++ ((NoConnection, not (q (v .slot .status))) ∷ []))
     → Agrees (freed l t p) (amended (turnedTo t j) p struck)
 released l j t a b port q free c =
     let p : Peer = record { address = b; port = port } in
@@ -311,8 +311,8 @@ released l j t a b port q free c =
     (λ m e. omega arith) (λ m. struck-entry t m (view l t p .slot .status))
 
 done : (l : Listener) (j : Journal) (c : Call) → Agrees l j → Passed (checks (viewOf l c) c)
-    → Follows c (after l c) (doneEvent (viewOf l c) c) (written (turnedTo (timeOf c) j) c) (saysDone (turnedTo (timeOf c) j) c)
-unfolding after written saysDone
+    → Follows c (after l c) (doneEvent (viewOf l c) c) (noted (turnedTo (timeOf c) j) c) (saysDone (turnedTo (timeOf c) j) c)
+unfolding after noted saysDone
 done l j (segment t src seg iss room) a q =
     by-kind l j t a (on-time l t (q .1 .0)) src seg iss room (eqb-true _ _ (not-false _ (q .1 .1 .0))) (kindOf (fieldsOf seg .flags)) (q .1 .1 .1 .1 .1 .1 .1)
 done l j (settings t g) a q =
@@ -325,35 +325,13 @@ done l j (abandon t b p) a q = quiet refl (released l j t a b p isWaiting refl q
 done l j (resend t b p room) a q = quiet refl (moved-agrees l j t (l .slots) (turnedTo t j .entries) a (unchanged l j t a (on-time l t (q .1 .0))))
 done l j (close t b p) a q = quiet refl (released l j t a b p isEstablished refl q)
 
-done-is-0 : (v : View) (c : Call) → numberOfEvent (doneEvent v c) ≡ 0
-done-is-0 v (segment t src seg iss room) = go (kindOf (fieldsOf seg .flags))
-  where
-    new : (b : Bool) (n : ℕ) → numberOfEvent (newEvent b n) ≡ 0
-    new true n = refl
-    new false n = refl
-
-    opening : (k : Bool) → numberOfEvent (openingEvent k v (block src) seg) ≡ 0
-    opening true = refl
-    opening false = new (steps.isEarly v (block src) seg) _
-
-    go : (k : Kind) → numberOfEvent (segmentEvent v (block src) seg k) ≡ 0
-    go Syn = opening (known v)
-    go Ack = refl
-    go Rst = refl
-    go Other = refl
-done-is-0 v (settings t g) = refl
-done-is-0 v (key t k) = refl
-done-is-0 v (abandon t a p) = refl
-done-is-0 v (resend t a p room) = refl
-done-is-0 v (close t a p) = refl
-
 -- A call, and what the journal makes of the number that it answers
 one : (l : Listener) (j : Journal) (c : Call) → Agrees l j → (r : Check) → judged l c ≡ r
-    → let o = answered l c r in
+    → let o = outcomeOf l c r in
     let n = numberOfEvent (o .event) in
     Follows c (o .listener) (o .event) (feed j c n) (says j c n)
 unfolding judged feed says
-one l j c a Clear e = rw (done-is-0 (viewOf l c) c) (done l j c a (every-check (checks (viewOf l c) c) e))
+one l j c a Clear e = rw (done-number (viewOf l c) c) (done l j c a (every-check (checks (viewOf l c) c) e))
 one l j c a (Refused r) e = go (numberOf r) refl
   where
     go : (n : ℕ) → numberOf r ≡ n → Follows c l (events.Refused r) (feed j c n) (says j c n)
@@ -377,7 +355,7 @@ unfolding block
 free-fits V4 = refl
 free-fits V6 = refl
 
-begun-agrees : (own : List ℕ) (port : ℕ) (k : List ℕ) → Agrees (fresh own port k) (begun own port k)
+begun-agrees : (own : List ℕ) (port : ℕ) (k : List ℕ) → Agrees (freshListener own port k) (begun own port k)
 begun-agrees own port k = record { started = refl; time = refl; settings = refl; present = refl; previous = refl; table = blank (familyOf own) }
   where
     blank : (f : Family) → Table f 0 (replicate 64 freeSlot) []

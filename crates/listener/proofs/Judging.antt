@@ -1,7 +1,7 @@
 -- The checks of a call one after the other, and what `step` makes of them. Assumes nothing.
 use Prim.Native.Nat.{ℕ, _≤_, _<_}
 use mathlib.Core.Path.{_≡_, refl, sym, ap, _∙_}
-use mathlib.Core.Bool.{Bool, true, false, cond, not, _||_}
+use mathlib.Core.Bool.{Bool, true, false, cond, not}
 use mathlib.Core.List.{List, [], _∷_, _++_}
 use lib.Dec.{ltb, eqb}
 use lib.ListN.{length}
@@ -17,17 +17,16 @@ use Rattle.segment.specs.declared.header.Header.{Header}
 use Rattle.segment.specs.declared.header.Kind.{Kind}
 use Rattle.segment.specs.declared.header.Kind.the-variants.{Syn, Rst, Ack, Other}
 use Rattle.listener.specs.Address.{isAddress}
-use Rattle.listener.specs.Call.{Call, segment, settings, key, resend, sender, timeOf, peerOf}
-use Rattle.listener.specs.View.{isLate, ownAddress, view, viewOf}
+use Rattle.listener.specs.Call.{Call, segment, settings, key, resend, sender}
+use Rattle.listener.specs.View.{isUntimely, ownAddress, view, viewOf}
 use Rattle.listener.specs.Refusals.{inRange, isKey, isReleasable, releaseOf, timely, addressed, roomy, kindChecks, wireChecks, judged}
 use Rattle.listener.specs.Table.{isWaiting}
-use Rattle.listener.specs.Step.{doneEvent, doneOutput, after, answered, step, outputIf, outputOf}
+use Rattle.listener.specs.Step.{doneEvent, doneOutput, after, outcomeOf, step, outputIf, outputOf}
 use Rattle.listener.specs.declared.state.Settings.{Settings}
 use Rattle.listener.specs.declared.state.Home.{Home}
 use Rattle.listener.specs.declared.state.View.{View}
 use Rattle.listener.specs.declared.state.Listener.{Listener}
 use Rattle.listener.specs.declared.answer.Event.the-variants as events
-use Rattle.listener.specs.declared.answer.Outcome.{Outcome}
 
 -- a check, and another where it is clear
 abbrev pub andThen : Check → Check → Check
@@ -57,27 +56,27 @@ passed x y z e k = e ∙ ap (λ (u : Check). andThen u z) k
 abbrev only : Bool → Refusal → Check
 only b r = cond b (Refused r) Clear
 
-module _ (h : Home) (late : Bool) where
+module _ (h : Home) (untimely : Bool) where
   abbrev timed : List (Bool × Refusal)
-  timed = (not (h .started), NotStarted) ∷ (late, Time) ∷ []
+  timed = (not (h .started), NotStarted) ∷ (untimely, Time) ∷ []
 
   module _ (a : List ℕ) where
     abbrev named : List (Bool × Refusal)
     named = timed ++ ((not (isAddress (h .family) a), Address) ∷ [])
 
-    name-check : refusal (timely h late ++ addressed h a) ≡ andThen (refusal (timely h late)) (only (not (isAddress (h .family) a)) Address)
+    name-check : refusal (timely h untimely ++ addressed h a) ≡ andThen (refusal (timely h untimely)) (only (not (isAddress (h .family) a)) Address)
     name-check = chain-then timed _
 
-    pub name-stopped : {r : Refusal} → refusal (timely h late) ≡ Refused r → refusal (timely h late ++ addressed h a) ≡ Refused r
+    pub name-stopped : {r : Refusal} → refusal (timely h untimely) ≡ Refused r → refusal (timely h untimely ++ addressed h a) ≡ Refused r
     name-stopped e = stopped _ _ _ name-check e
 
-    module _ (first : refusal (timely h late) ≡ Clear) {ours : Bool} (e : ours ≡ isAddress (h .family) a) where
-      pub name-right : ours ≡ true → refusal (timely h late ++ addressed h a) ≡ Clear
+    module _ (first : refusal (timely h untimely) ≡ Clear) {ours : Bool} (e : ours ≡ isAddress (h .family) a) where
+      pub name-right : ours ≡ true → refusal (timely h untimely ++ addressed h a) ≡ Clear
       name-right y =
           let at : only (not (isAddress (h .family) a)) Address ≡ Clear = rw (sym e ∙ y) in
           passed _ _ _ name-check first ∙ at
 
-      pub name-wrong : ours ≡ false → refusal (timely h late ++ addressed h a) ≡ Refused Address
+      pub name-wrong : ours ≡ false → refusal (timely h untimely ++ addressed h a) ≡ Refused Address
       name-wrong y =
           let at : only (not (isAddress (h .family) a)) Address ≡ Refused Address = rw (sym e ∙ y) in
           passed _ _ _ name-check first ∙ at
@@ -86,19 +85,19 @@ module _ (h : Home) (late : Bool) where
       abbrev outed : List (Bool × Refusal)
       outed = named ++ ((ltb room 36, Output) ∷ [])
 
-      output-check : refusal (timely h late ++ addressed h a ++ roomy room) ≡ andThen (refusal (timely h late ++ addressed h a)) (only (ltb room 36) Output)
+      output-check : refusal (timely h untimely ++ addressed h a ++ roomy room) ≡ andThen (refusal (timely h untimely ++ addressed h a)) (only (ltb room 36) Output)
       output-check = chain-then named _
 
-      pub output-stopped : {r : Refusal} → refusal (timely h late ++ addressed h a) ≡ Refused r → refusal (timely h late ++ addressed h a ++ roomy room) ≡ Refused r
+      pub output-stopped : {r : Refusal} → refusal (timely h untimely ++ addressed h a) ≡ Refused r → refusal (timely h untimely ++ addressed h a ++ roomy room) ≡ Refused r
       output-stopped e = stopped _ _ _ output-check e
 
-      module _ (first : refusal (timely h late ++ addressed h a) ≡ Clear) where
-        pub output-enough : 36 ≤ room → refusal (timely h late ++ addressed h a ++ roomy room) ≡ Clear
+      module _ (first : refusal (timely h untimely ++ addressed h a) ≡ Clear) where
+        pub output-enough : 36 ≤ room → refusal (timely h untimely ++ addressed h a ++ roomy room) ≡ Clear
         output-enough y =
             let at : only (ltb room 36) Output ≡ Clear = rw (le-ltb _ _ y) in
             passed _ _ _ output-check first ∙ at
 
-        pub output-short : room < 36 → refusal (timely h late ++ addressed h a ++ roomy room) ≡ Refused Output
+        pub output-short : room < 36 → refusal (timely h untimely ++ addressed h a ++ roomy room) ≡ Refused Output
         output-short y =
             let at : only (ltb room 36) Output ≡ Refused Output = rw (lt-ltb _ _ y) in
             passed _ _ _ output-check first ∙ at
@@ -107,14 +106,14 @@ module _ (h : Home) (late : Bool) where
         abbrev pub wire : Check
         wire = cond (malformed seg) (Refused Format) (cond (not (checksumRight a (ownAddress h) seg)) (Refused Checksum) (only (not (eqb (fieldsOf seg .dest) (h .port))) Port))
 
-        pub wire-check : refusal (wireChecks h late a seg room) ≡ andThen (refusal (timely h late ++ addressed h a ++ roomy room)) wire
+        pub wire-check : refusal (wireChecks h untimely a seg room) ≡ andThen (refusal (timely h untimely ++ addressed h a ++ roomy room)) wire
         wire-check = chain-then outed _
 
         abbrev wired : List (Bool × Refusal)
         wired = outed ++ ((malformed seg, Format) ∷ (not (checksumRight a (ownAddress h) seg), Checksum) ∷ (not (eqb (fieldsOf seg .dest) (h .port)), Port) ∷ [])
 
         kind-check : (v : View) (x : Header) (k : Kind)
-            → refusal (wireChecks h late a seg room ++ kindChecks v x k) ≡ andThen (refusal (wireChecks h late a seg room)) (refusal (kindChecks v x k))
+            → refusal (wireChecks h untimely a seg room ++ kindChecks v x k) ≡ andThen (refusal (wireChecks h untimely a seg room)) (refusal (kindChecks v x k))
         kind-check v x Syn = chain-then wired _
         kind-check v x Ack = chain-then wired _
         kind-check v x Rst = chain-then wired _
@@ -123,45 +122,45 @@ module _ (h : Home) (late : Bool) where
 -- What the checks of each call come to
 
 module _ (l : Listener) (t : ℕ) where
-  pub judged-settings : (g : Settings) → judged l (settings t g) ≡ andThen (refusal (timely (l .home) (isLate (l .clock) t))) (only (not (inRange g)) Range)
+  pub judged-settings : (g : Settings) → judged l (settings t g) ≡ andThen (refusal (timely (l .home) (isUntimely (l .clock) t))) (only (not (inRange g)) Range)
   unfolding judged
-  judged-settings g = chain-then (timed (l .home) (isLate (l .clock) t)) _
+  judged-settings g = chain-then (timed (l .home) (isUntimely (l .clock) t)) _
 
-  pub judged-key : (k : List ℕ) → judged l (key t k) ≡ andThen (refusal (timely (l .home) (isLate (l .clock) t))) (only (not (isKey k)) Range)
+  pub judged-key : (k : List ℕ) → judged l (key t k) ≡ andThen (refusal (timely (l .home) (isUntimely (l .clock) t))) (only (not (isKey k)) Range)
   unfolding judged
-  judged-key k = chain-then (timed (l .home) (isLate (l .clock) t)) _
+  judged-key k = chain-then (timed (l .home) (isUntimely (l .clock) t)) _
 
   pub judged-release : (e : Bool) (a : List ℕ) (p : ℕ) → judged l (releaseOf e t a p)
-      ≡ andThen (refusal (timely (l .home) (isLate (l .clock) t) ++ addressed (l .home) a))
+      ≡ andThen (refusal (timely (l .home) (isUntimely (l .clock) t) ++ addressed (l .home) a))
       (only (not (isReleasable e (view l t (record { address = a; port = p }) .slot .status))) NoConnection)
   unfolding judged
-  judged-release true a p = chain-then (named (l .home) (isLate (l .clock) t) a) _
-  judged-release false a p = chain-then (named (l .home) (isLate (l .clock) t) a) _
+  judged-release true a p = chain-then (named (l .home) (isUntimely (l .clock) t) a) _
+  judged-release false a p = chain-then (named (l .home) (isUntimely (l .clock) t) a) _
 
   pub judged-resend : (a : List ℕ) (p room : ℕ) → judged l (resend t a p room)
-      ≡ andThen (refusal (timely (l .home) (isLate (l .clock) t) ++ addressed (l .home) a ++ roomy room))
+      ≡ andThen (refusal (timely (l .home) (isUntimely (l .clock) t) ++ addressed (l .home) a ++ roomy room))
       (only (not (isWaiting (view l t (record { address = a; port = p }) .slot .status))) NoConnection)
   unfolding judged
-  judged-resend a p room = chain-then (outed (l .home) (isLate (l .clock) t) a room) _
+  judged-resend a p room = chain-then (outed (l .home) (isUntimely (l .clock) t) a room) _
 
   pub judged-segment : (src seg : List ℕ) (iss room : ℕ) → judged l (segment t src seg iss room)
-      ≡ andThen (refusal (wireChecks (l .home) (isLate (l .clock) t) src seg room))
+      ≡ andThen (refusal (wireChecks (l .home) (isUntimely (l .clock) t) src seg room))
       (refusal (kindChecks (view l t (sender src seg)) (fieldsOf seg) (kindOf (fieldsOf seg .flags))))
   unfolding judged
   judged-segment src seg iss room =
-      kind-check (l .home) (isLate (l .clock) t) src room seg (view l t (sender src seg)) (fieldsOf seg) (kindOf (fieldsOf seg .flags))
+      kind-check (l .home) (isUntimely (l .clock) t) src room seg (view l t (sender src seg)) (fieldsOf seg) (kindOf (fieldsOf seg .flags))
 
 -- A call is refused or done
 
 module _ (l : Listener) (c : Call) where
   pub step-refused : {r : Refusal} → judged l c ≡ Refused r → step l c ≡ record { listener = l; event = events.Refused r; written = 0 }
   unfolding step
-  step-refused e = ap (answered l c) e
+  step-refused e = ap (outcomeOf l c) e
 
   pub step-done : judged l c ≡ Clear
       → step l c ≡ record { listener = after l c; event = doneEvent (viewOf l c) c; written = length (doneOutput (viewOf l c) c) }
   unfolding step
-  step-done e = ap (answered l c) e
+  step-done e = ap (outcomeOf l c) e
 
   pub output-refused : {r : Refusal} → judged l c ≡ Refused r → outputOf l c ≡ []
   unfolding outputOf

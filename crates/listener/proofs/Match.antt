@@ -9,8 +9,8 @@ use lib.Dec.{ltb, eqb}
 use lib.ListN.{length, getD, set, take}
 use Rattle.listener.specs.Lists.{bit, sum, tally, amend, sameBytes}
 use Rattle.listener.specs.Address.{Peer, samePeer, size, block}
-use Rattle.listener.specs.Table.{isLive, isPending, holds, pendingAt, freeSlot}
-use Rattle.listener.specs.Journal.{Mark, isPlain, isEarly, isOpen, isHeld, Entry, pends, named, keptMark, kept, only}
+use Rattle.listener.specs.Table.{isLive, isPending, holdsPeer, pendingAt, freeSlot}
+use Rattle.listener.specs.Journal.{Mark, markPlain, markEarly, markOpen, markHeld, Entry, pends, named, keptMark, kept, only}
 use Rattle.listener.specs.declared.address.Family.{Family}
 use Rattle.listener.specs.declared.table.Status.{Status}
 use Rattle.listener.specs.declared.table.Status.the-variants.{Free, SynReceived, FastOpen, ResetHeld, Established}
@@ -27,10 +27,10 @@ nameOf f s = record { address = take (size f) (s .addr); port = s .port }
 -- none for a slot that is free at the time
 abbrev pub entryFor : ℕ → Peer → Status → List Entry
 entryFor t p Free = []
-entryFor t p SynReceived = keptMark t p isPlain
-entryFor t p (FastOpen n) = keptMark t p isEarly
-entryFor t p (ResetHeld end) = keptMark t p (isHeld end)
-entryFor t p Established = keptMark t p isOpen
+entryFor t p SynReceived = keptMark t p markPlain
+entryFor t p (FastOpen n) = keptMark t p markEarly
+entryFor t p (ResetHeld end) = keptMark t p (markHeld end)
+entryFor t p Established = keptMark t p markOpen
 
 abbrev pub entryIn : Family → ℕ → Slot → List Entry
 entryIn f t s = entryFor t (nameOf f s) (s .status)
@@ -39,14 +39,14 @@ entryIn f t s = entryFor t (nameOf f s) (s .status)
 pub by-entry : (t : ℕ) (p : Peer) (st : Status) (Q : Bool → List Entry → Type 0) → Q false []
     → ((k : Mark) → keptMark t p k ≡ record { who = p; mark = k } ∷ [] → Q true (record { who = p; mark = k } ∷ [])) → Q (isLive t st) (entryFor t p st)
 by-entry t p Free Q none one = none
-by-entry t p SynReceived Q none one = one isPlain refl
-by-entry t p (FastOpen n) Q none one = one isEarly refl
+by-entry t p SynReceived Q none one = one markPlain refl
+by-entry t p (FastOpen n) Q none one = one markEarly refl
 by-entry t p (ResetHeld end) Q none one = go (ltb t end) refl
   where
-    go : (b : Bool) → ltb t end ≡ b → Q b (cond b (record { who = p; mark = isHeld end } ∷ []) [])
-    go true e = one (isHeld end) (rw e)
+    go : (b : Bool) → ltb t end ≡ b → Q b (cond b (record { who = p; mark = markHeld end } ∷ []) [])
+    go true e = one (markHeld end) (rw e)
     go false e = none
-by-entry t p Established Q none one = one isOpen refl
+by-entry t p Established Q none one = one markOpen refl
 
 -- a peer's connection stands in the slot, by name
 abbrev pub stands : Family → ℕ → Peer → Slot → Bool
@@ -57,10 +57,10 @@ abbrev pub Fits : Family → Slot → Type 0
 Fits f s = s .addr ≡ block (take (size f) (s .addr))
 
 -- a search of the table by block finds what stands there by name
-pub holds-stands : (f : Family) (t : ℕ) (p : Peer) (s : Slot) → length (p .address) ≡ size f → Fits f s
-    → holds t (block (p .address)) (p .port) s ≡ stands f t p s
-unfolding holds
-holds-stands f t p s h fit = ap (λ b. isLive t (s .status) && b) (one-test _ _ there back)
+pub holdsPeer-stands : (f : Family) (t : ℕ) (p : Peer) (s : Slot) → length (p .address) ≡ size f → Fits f s
+    → holdsPeer t (block (p .address)) (p .port) s ≡ stands f t p s
+unfolding holdsPeer
+holdsPeer-stands f t p s h fit = ap (λ b. isLive t (s .status) && b) (one-test _ _ there back)
   where
     there : (eqb (s .port) (p .port) && sameBytes (s .addr) (block (p .address))) ≡ true → samePeer p (nameOf f s) ≡ true
     there e =
@@ -88,11 +88,11 @@ kept-thins : (t : ℕ) → Thins (kept t)
 kept-thins t p e = go (e .mark)
   where
     go : (k : Mark) → tally (named p) (keptMark t (e .who) k) ≤ bit (named p e)
-    go isPlain = omega arith
-    go isEarly = omega arith
-    go isOpen = omega arith
-    go (isHeld end) =
-        elim (ltb t end) as (λ b. tally (named p) (cond b (record { who = e .who; mark = isHeld end } ∷ []) []) ≤ bit (named p e))
+    go markPlain = omega arith
+    go markEarly = omega arith
+    go markOpen = omega arith
+    go (markHeld end) =
+        elim (ltb t end) as (λ b. tally (named p) (cond b (record { who = e .who; mark = markHeld end } ∷ []) []) ≤ bit (named p e))
         [ true ↦ omega arith | false ↦ omega arith ]
 
 only-thins : (n : Peer) (rule : Entry → List Entry) → Thins rule → Thins (only n rule)
@@ -104,13 +104,13 @@ only-thins n rule h p e = go (named n e)
 
 -- the held that ended by an earlier time have ended by a later one
 kept-later : (t t′ : ℕ) → t ≤ t′ → (p : Peer) (k : Mark) → amend (kept t′) (keptMark t p k) ≡ keptMark t′ p k
-kept-later t t′ h p isPlain = refl
-kept-later t t′ h p isEarly = refl
-kept-later t t′ h p isOpen = refl
-kept-later t t′ h p (isHeld end) = go (ltb t end) (ltb t′ end) refl refl
+kept-later t t′ h p markPlain = refl
+kept-later t t′ h p markEarly = refl
+kept-later t t′ h p markOpen = refl
+kept-later t t′ h p (markHeld end) = go (ltb t end) (ltb t′ end) refl refl
   where
     x : Entry
-    x = record { who = p; mark = isHeld end }
+    x = record { who = p; mark = markHeld end }
 
     go : (a b : Bool) → ltb t end ≡ a → ltb t′ end ≡ b → amend (kept t′) (cond a (x ∷ []) []) ≡ cond b (x ∷ []) []
     go true true p q = ap (λ c. cond c (x ∷ []) [] ++ []) q
@@ -119,12 +119,12 @@ kept-later t t′ h p (isHeld end) = go (ltb t end) (ltb t′ end) refl refl
     go false false p q = refl
 
 kept-pends : (t : ℕ) (p : Peer) (k : Mark) → tally (λ e. pends t (e .mark)) (keptMark t p k) ≡ bit (pends t k)
-kept-pends t p isPlain = refl
-kept-pends t p isEarly = refl
-kept-pends t p isOpen = refl
-kept-pends t p (isHeld end) = go (ltb t end) refl
+kept-pends t p markPlain = refl
+kept-pends t p markEarly = refl
+kept-pends t p markOpen = refl
+kept-pends t p (markHeld end) = go (ltb t end) refl
   where
-    go : (b : Bool) → ltb t end ≡ b → tally (λ (e : Entry). pends t (e .mark)) (cond b (record { who = p; mark = isHeld end } ∷ []) []) ≡ bit b
+    go : (b : Bool) → ltb t end ≡ b → tally (λ (e : Entry). pends t (e .mark)) (cond b (record { who = p; mark = markHeld end } ∷ []) []) ≡ bit b
     go true e = ap (λ c. bit c + 0) e
     go false e = refl
 
@@ -148,7 +148,7 @@ module _ {f : Family} {t : ℕ} {slots : List Slot} {es : List Entry} (m : Match
       go p Free = refl
       go p SynReceived = refl
       go p (FastOpen n) = refl
-      go p (ResetHeld end) = kept-pends t p (isHeld end)
+      go p (ResetHeld end) = kept-pends t p (markHeld end)
       go p Established = refl
 
   -- a rule at work on the entries is at work on the slots'
@@ -167,7 +167,7 @@ module _ {f : Family} {t : ℕ} {slots : List Slot} {es : List Entry} (m : Match
       go p Free = refl
       go p SynReceived = refl
       go p (FastOpen n) = refl
-      go p (ResetHeld end) = kept-later t t′ h p (isHeld end)
+      go p (ResetHeld end) = kept-later t t′ h p (markHeld end)
       go p Established = refl
 
   -- a new entry, and a slot for it in a place that was free

@@ -6,21 +6,19 @@ use mathlib.Core.List.{List, []}
 use native.Mathlib.Omega.{arith}
 use Rattle.segment.specs.Header.{fieldsOf, kindOf}
 use Rattle.segment.specs.Refusal.{applies, refusal}
-use Rattle.segment.specs.declared.header.Kind.{Kind}
-use Rattle.segment.specs.declared.header.Kind.the-variants.{Syn, Rst, Ack, Other}
 use Rattle.segment.specs.declared.refusal.Refusal.{Refusal}
 use Rattle.segment.specs.declared.refusal.Refusal.the-variants.{NotStarted}
 use Rattle.segment.specs.declared.refusal.Check.{Check}
 use Rattle.segment.specs.declared.refusal.Check.the-variants.{Clear, Refused}
 use Rattle.segment.proofs.Numbers.{done-is-0}
-use Rattle.listener.specs.Address.{block}
 use Rattle.listener.specs.Call.{Call, segment, settings, key, abandon, resend, close, numberOfEvent}
-use Rattle.listener.specs.View.{known, viewOf}
+use Rattle.listener.specs.View.{viewOf}
 use Rattle.listener.specs.Refusals.{kindChecks, checks, judged}
-use Rattle.listener.specs.Step.{startedBy, startChecks, startOf, isEarly, newEvent, openingEvent, segmentEvent, doneEvent, answered, step, outputIf, outputOf}
+use Rattle.listener.specs.Step.{startedBy, startChecks, startOf, outcomeOf, step, outputIf, outputOf}
 use Rattle.listener.specs.declared.state.View.{View}
 use Rattle.listener.specs.declared.state.Listener.{Listener}
 use Rattle.listener.specs.declared.answer.Event.the-variants as events
+use Rattle.listener.proofs.Events.{done-number}
 
 -- 13 goes before whatever else applies
 never-applies : (v : View) (c : Call) → v .home .started ≡ false → applies (checks v c) NotStarted ≡ true
@@ -50,37 +48,14 @@ refused-start own port k r e = go (refusal (startChecks own k)) e
     go Clear q = absurd (let z : _≡_ {A = ℕ} 0 1 = cc in omega arith)
     go (Refused s) q = refl
 
--- what a done call answers is no refusal: its number is 0
-new-number : (early : Bool) (n : ℕ) → numberOfEvent (newEvent early n) ≡ 0
-new-number true n = refl
-new-number false n = refl
-
-opening-number : (repeat : Bool) (v : View) (b seg : List ℕ) → numberOfEvent (openingEvent repeat v b seg) ≡ 0
-opening-number true v b seg = refl
-opening-number false v b seg = new-number (isEarly v b seg) _
-
-kind-number : (v : View) (b seg : List ℕ) (k : Kind) → numberOfEvent (segmentEvent v b seg k) ≡ 0
-kind-number v b seg Syn = opening-number (known v) v b seg
-kind-number v b seg Rst = refl
-kind-number v b seg Ack = refl
-kind-number v b seg Other = refl
-
-done-number : (v : View) (c : Call) → numberOfEvent (doneEvent v c) ≡ 0
-done-number v (segment t src seg iss room) = kind-number v (block src) seg (kindOf (fieldsOf seg .flags))
-done-number v (settings t g) = refl
-done-number v (key t k) = refl
-done-number v (abandon t a p) = refl
-done-number v (resend t a p room) = refl
-done-number v (close t a p) = refl
-
 -- a call that is refused changes nothing and writes nothing
 pub refused-same : (l : Listener) (c : Call) (r : Refusal) → step l c .event ≡ events.Refused r
     → (step l c .listener ≡ l) × (step l c .written ≡ 0) × (outputOf l c ≡ [])
 unfolding step outputOf
 refused-same l c r e = go (judged l c) e
   where
-    go : (k : Check) → answered l c k .event ≡ events.Refused r
-        → (answered l c k .listener ≡ l) × (answered l c k .written ≡ 0) × (outputIf (viewOf l c) c k ≡ [])
+    go : (k : Check) → outcomeOf l c k .event ≡ events.Refused r
+        → (outcomeOf l c k .listener ≡ l) × (outcomeOf l c k .written ≡ 0) × (outputIf (viewOf l c) c k ≡ [])
     go Clear q =
         let done = done-is-0 (Refused r) (ap numberOfEvent (sym q) ∙ done-number (viewOf l c) c) in
         absurd (let z : _≡_ {A = ℕ} 0 1 = cc in omega arith)

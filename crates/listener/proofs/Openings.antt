@@ -1,5 +1,5 @@
 -- New openings: when one is clear, what it is answered, and what it does to the table. Assumes nothing.
-use Prim.Native.Nat.{ℕ, _+_, _≤_, _<_, min}
+use Prim.Native.Nat.{ℕ, _+_, _≤_, _<_}
 use mathlib.Core.Path.{_≡_, refl, sym, ap, _∙_}
 use mathlib.Core.Bool.{Bool, true, false, not, true≢false, false≢true}
 use mathlib.Core.List.{List, [], _∷_, _++_}
@@ -8,8 +8,7 @@ use borrow.Author.Tests.{ltb-true, ltb-false, lt-ltb, not-true, not-false}
 use lib.Dec.{ltb}
 use lib.ListN.{length, getD, set, List·getD-eq-default}
 use Rattle.segment.specs.Refusal.{order, Checks, refusal}
-use Rattle.segment.specs.Header.{fieldsOf, payloadOf, kindOf}
-use Rattle.segment.specs.Checksum.{checksumRight}
+use Rattle.segment.specs.Header.{fieldsOf, kindOf}
 use Rattle.segment.proofs.Bools.{and-true}
 use Rattle.segment.proofs.Numbers.{none-applies}
 use Rattle.segment.specs.declared.refusal.Refusal.the-variants.{TableFull}
@@ -18,11 +17,11 @@ use Rattle.segment.specs.declared.header.Kind.the-variants.{Syn}
 use Rattle.listener.specs.Lists.{bit, tally, firstIndex}
 use Rattle.listener.specs.Address.{Peer, block}
 use Rattle.listener.specs.Cookie.{carriedBy, right}
-use Rattle.listener.specs.Table.{isLive, isPending, isFree, freeSlot, newSlot, holds, freePlace, pendingAt}
+use Rattle.listener.specs.Table.{isLive, isPending, isFree, freeSlot, newSlot, holdsPeer, freePlace, pendingAt}
 use Rattle.listener.specs.Call.{segment, sender}
-use Rattle.listener.specs.View.{isLate, known, ownAddress, view}
+use Rattle.listener.specs.View.{isUntimely, known, view}
 use Rattle.listener.specs.Refusals.{wireChecks, judged}
-use Rattle.listener.specs.Step.{isEarly, isFresh, newEvent, answerTo, put, after, step}
+use Rattle.listener.specs.Step.{accepts, isEarly, isFresh, newEvent, answerTo, put, after, step}
 use Rattle.listener.specs.declared.table.Status.{Status}
 use Rattle.listener.specs.declared.table.Status.the-variants.{Free, SynReceived, FastOpen, ResetHeld, Established}
 use Rattle.listener.specs.declared.table.Slot.{Slot}
@@ -43,8 +42,8 @@ pub first-found : {A : Type 0} (p : A → Bool) (xs : List A) → 0 < tally p xs
 first-found p xs h = placed p xs (λ k. k) (λ k. absurd (omega (arith, h, none-passes p xs k)))
 
 -- a slot that holds a peer is not free
-holds-taken : (t : ℕ) (b : List ℕ) (port : ℕ) (s : Slot) → holds t b port s ≡ true → not (isFree (s .status)) ≡ true
-unfolding holds
+holds-taken : (t : ℕ) (b : List ℕ) (port : ℕ) (s : Slot) → holdsPeer t b port s ≡ true → not (isFree (s .status)) ≡ true
+unfolding holdsPeer
 holds-taken t b port s e = go (s .status) (and-true (isLive t (s .status)) _ e .0)
   where
     go : (o : Status) → isLive t o ≡ true → not (isFree o) ≡ true
@@ -56,7 +55,7 @@ holds-taken t b port s e = go (s .status) (and-true (isLive t (s .status)) _ e .
 
 -- the test that finds a peer's place
 abbrev pub holding : ℕ → Peer → Slot → Bool
-holding t p = holds t (block (p .address)) (p .port)
+holding t p = holdsPeer t (block (p .address)) (p .port)
 
 -- a peer is not known exactly where no slot holds it
 module _ (l : Listener) (t : ℕ) (p : Peer) where
@@ -98,20 +97,14 @@ newStatus false n = SynReceived
 abbrev pub slotFor : Bool → List ℕ → List ℕ → ℕ → ℕ → Slot
 slotFor early src seg iss n = newSlot (block src) (fieldsOf seg .source) (fieldsOf seg .seq) iss (newStatus early n)
 
--- the bytes of its payload up to the early room
-abbrev pub upTo : Listener → List ℕ → ℕ
-upTo l seg = min (length (payloadOf seg)) (l .settings .room)
-
 -- its checks: those of the wire, and 8 where no place is free
 abbrev newChecks : Listener → ℕ → List ℕ → List ℕ → ℕ → Checks
 newChecks l t src seg room =
-    wireChecks (l .home) (isLate (l .clock) t) src seg room ++ ((TableFull, not (ltb (freePlace t (l .slots)) 64)) ∷ [])
+    wireChecks (l .home) (isUntimely (l .clock) t) src seg room ++ ((TableFull, not (ltb (freePlace t (l .slots)) 64)) ∷ [])
 
 -- what is known of one that is clear
-pub record Admitted (l : Listener) (t : ℕ) (src seg : List ℕ) (room : ℕ) : Type 0 where
+pub record Admitted (l : Listener) (t : ℕ) : Type 0 where
   pub started : l .home .started ≡ true
-  pub output : 36 ≤ room
-  pub checksum : checksumRight src (ownAddress (l .home)) seg ≡ true
   pub place : freePlace t (l .slots) < 64
 
 -- early: Fast Open is on, pending is below the limit, and the cookie is right
@@ -127,18 +120,16 @@ module _ (l : Listener) (t : ℕ) (src seg : List ℕ) (iss room : ℕ) (syn : k
   judged-new = rw (syn, new)
 
   -- it is clear where the wire checks are and a place is free
-  pub new-clear : refusal (wireChecks (l .home) (isLate (l .clock) t) src seg room) ≡ Clear → freePlace t (l .slots) < 64
+  pub new-clear : refusal (wireChecks (l .home) (isUntimely (l .clock) t) src seg room) ≡ Clear → freePlace t (l .slots) < 64
       → judged l (segment t src seg iss room) ≡ Clear
   new-clear e h = judged-new ∙ rw (lt-ltb (freePlace t (l .slots)) 64 h) e
 
-  -- and where it is clear, these are: 13, 11, 3 and 8 by their places in the order
-  pub clear-new : judged l (segment t src seg iss room) ≡ Clear → Admitted l t src seg room
+  -- and where it is clear, these hold: 13 and 8 by their places in the order
+  pub clear-new : judged l (segment t src seg iss room) ≡ Clear → Admitted l t
   clear-new e =
       let n = none-applies order (newChecks l t src seg room) (sym judged-new ∙ e) in
       record {
         started = not-false _ (n .0);
-        output = ltb-false room 36 (n .1 .1 .1 .0);
-        checksum = not-false _ (n .1 .1 .1 .1 .1 .0);
         place = ltb-true _ _ (not-false _ (n .1 .1 .1 .1 .1 .1 .1 .1 .1 .1 .1 .0));
       }
 
@@ -146,9 +137,9 @@ module _ (l : Listener) (t : ℕ) (src seg : List ℕ) (iss room : ℕ) (syn : k
   pub step-new : (early : Bool) → isEarly (view l t (sender src seg)) (block src) seg ≡ early → judged l (segment t src seg iss room) ≡ Clear
       → step l (segment t src seg iss room)
       ≡ record {
-        listener = put l t (freePlace t (l .slots)) (slotFor early src seg iss (upTo l seg));
-        event = newEvent early (upTo l seg);
-        written = length (answerTo (view l t (sender src seg)) src (slotFor early src seg iss (upTo l seg))
+        listener = put l t (freePlace t (l .slots)) (slotFor early src seg iss (accepts (l .settings) seg));
+        event = newEvent early (accepts (l .settings) seg);
+        written = length (answerTo (view l t (sender src seg)) src (slotFor early src seg iss (accepts (l .settings) seg))
             (isFresh (view l t (sender src seg)) (block src) seg) room);
       }
   unfolding step after

@@ -15,7 +15,7 @@ use Rattle.segment.specs.declared.header.Header.{Header}
 use Rattle.listener.specs.Address.{block}
 use Rattle.listener.specs.Call.{acceptedOf, acceptedPart}
 use Rattle.listener.specs.Refusals.{inRange, expected, completes}
-use Rattle.listener.specs.Step.{blank, familyOf, fresh, neverStarted, startOf}
+use Rattle.listener.specs.Step.{blank, familyOf, freshListener, neverStarted, startOf}
 use Rattle.listener.specs.declared.address.Family.{Family}
 use Rattle.listener.specs.declared.address.Family.the-variants.{V4, V6}
 use Rattle.listener.specs.declared.state.Settings.{Settings}
@@ -56,7 +56,7 @@ pub other-bytes : (own : List ℕ) {f : Family} → f ≡ V6 → (length own ≡
 other-bytes own e h = rw (e, ne-eqb _ _ h)
 
 pub fresh-made : (own : List ℕ) (port : ℕ) (k : List ℕ) {f : Family} {b w : List ℕ} → f ≡ familyOf own → b ≡ block own → w ≡ keyExpansion k
-    → blank (record { started = true; family = f; own = b; port = port }) (record { present = w; previous = replicate 176 0; rotated = false }) ≡ fresh own port k
+    → blank (record { started = true; family = f; own = b; port = port }) (record { present = w; previous = replicate 176 0; rotated = false }) ≡ freshListener own port k
 fresh-made own port k e o q = rw (e, o, q)
 
 -- a start
@@ -78,6 +78,6 @@ module _ (own : List ℕ) (port : ℕ) (k : List ℕ) where
   unfolding startOf
   start-key a b = rw (a, ne-eqb _ _ b)
 
-  pub start-done : noFamily ≡ false → length k ≡ 16 → _≡_ {A = Started} (record { listener = fresh own port k; check = Clear }) (startOf own port k)
+  pub start-done : noFamily ≡ false → length k ≡ 16 → _≡_ {A = Started} (record { listener = freshListener own port k; check = Clear }) (startOf own port k)
   unfolding startOf
   start-done a b = rw (a, eq-eqb _ _ b)

@@ -1,15 +1,14 @@
 -- A segment's checks before its kind, from what the functions on the way ensure. Assumes nothing.
 use Prim.Native.Nat.{ℕ, _≤_}
-use mathlib.Core.Path.{_≡_, refl, sym, ap, _∙_}
-use mathlib.Core.Bool.{Bool, true, false, not}
+use mathlib.Core.Path.{_≡_, sym, ap, _∙_}
+use mathlib.Core.Bool.{Bool, true, false}
 use mathlib.Core.List.{List, _++_}
 use native.Mathlib.Omega.{arith}
-use lib.Dec.{eqb}
 use lib.ListN.{length, take}
 use lib.Seq.{length-take-le}
 use borrow.Author.Tests.{eq-eqb, ne-eqb}
 use Rattle.segment.specs.Refusal.{refusal}
-use Rattle.segment.specs.Header.{malformed, fieldsOf, shapeOf}
+use Rattle.segment.specs.Header.{fieldsOf, shapeOf}
 use Rattle.segment.specs.Checksum.{checksumRight}
 use Rattle.segment.specs.declared.refusal.Refusal.{Refusal}
 use Rattle.segment.specs.declared.refusal.Refusal.the-variants.{Format, Checksum, Port}
@@ -24,7 +23,6 @@ use Rattle.listener.specs.Refusals.{timely, addressed, roomy, wireChecks
 use Rattle.listener.specs.declared.address.Family.{Family}
 use Rattle.listener.specs.declared.address.Family.the-variants.{V4, V6}
 use Rattle.listener.specs.declared.state.Home.{Home}
-use Rattle.listener.specs.declared.checks.Received.{Received}
 use Rattle.listener.specs.declared.checks.Received.the-variants.{Dropped, Read}
 use Rattle.listener.proofs.Judging.{wire, wire-check, stopped, passed}
 
@@ -36,26 +34,26 @@ own-most V6 own e l = omega arith
 pub own-part : (f : Family) (own : List ℕ) {n : ℕ} → n ≡ size f → length own ≡ 16 → n ≡ length (take n own)
 own-part f own {n} e l = sym (length-take-le n own (own-most f own e l))
 
-module _ (h : Home) (late : Bool) (src seg : List ℕ) (room : ℕ) where
+module _ (h : Home) (untimely : Bool) (src seg : List ℕ) (room : ℕ) where
   abbrev First : Check
-  First = refusal (timely h late ++ addressed h src ++ roomy room)
+  First = refusal (timely h untimely ++ addressed h src ++ roomy room)
 
   abbrev All : Check
-  All = refusal (wireChecks h late src seg room)
+  All = refusal (wireChecks h untimely src seg room)
 
   said : {c : Check} → All ≡ c → received c (fieldsOf seg) ≡ received All (fieldsOf seg)
   said e = ap (λ (c : Check). received c (fieldsOf seg)) (sym e)
 
   pub dropped-before : {r : Refusal} → First ≡ Refused r → Dropped r ≡ received All (fieldsOf seg)
-  dropped-before e = said (stopped _ _ _ (wire-check h late src room seg) e)
+  dropped-before e = said (stopped _ _ _ (wire-check h untimely src room seg) e)
 
   module _ (first : First ≡ Clear) where
-    next : All ≡ wire h late src room seg
-    next = passed _ _ _ (wire-check h late src room seg) first
+    next : All ≡ wire h untimely src room seg
+    next = passed _ _ _ (wire-check h untimely src room seg) first
 
     pub dropped-shape : shapeOf seg ≡ Malformed → Dropped Format ≡ received All (fieldsOf seg)
     dropped-shape e =
-        let at : wire h late src room seg ≡ Refused Format = rw (ill-shaped seg e) in
+        let at : wire h untimely src room seg ≡ Refused Format = rw (ill-shaped seg e) in
         said (next ∙ at)
 
     module _ {x : Header} (shape : shapeOf seg ≡ WellFormed x) {n : ℕ} (size-is : n ≡ size (h .family)) {right : Bool}
@@ -65,7 +63,7 @@ module _ (h : Home) (late : Bool) (src seg : List ℕ) (room : ℕ) where
 
       pub dropped-sum : right ≡ false → Dropped Checksum ≡ received All (fieldsOf seg)
       dropped-sum k =
-          let at : wire h late src room seg ≡ Refused Checksum = rw (well-shaped seg x shape .0, summed ∙ k) in
+          let at : wire h untimely src room seg ≡ Refused Checksum = rw (well-shaped seg x shape .0, summed ∙ k) in
           said (next ∙ at)
 
       module _ (k : right ≡ true) where
@@ -73,12 +71,12 @@ module _ (h : Home) (late : Bool) (src seg : List ℕ) (room : ℕ) where
         dropped-port d =
             let w = well-shaped seg x shape in
             let no = ne-eqb (fieldsOf seg .dest) (h .port) (λ e. d (ap (λ (y : Header). y .dest) (w .1) ∙ e)) in
-            let at : wire h late src room seg ≡ Refused Port = rw (w .0, summed ∙ k, no) in
+            let at : wire h untimely src room seg ≡ Refused Port = rw (w .0, summed ∙ k, no) in
             said (next ∙ at)
 
         pub read : x .dest ≡ h .port → Read x ≡ received All (fieldsOf seg)
         read d =
             let w = well-shaped seg x shape in
             let yes = eq-eqb (fieldsOf seg .dest) (h .port) (sym (ap (λ (y : Header). y .dest) (w .1)) ∙ d) in
-            let at : wire h late src room seg ≡ Clear = rw (w .0, summed ∙ k, yes) in
+            let at : wire h untimely src room seg ≡ Clear = rw (w .0, summed ∙ k, yes) in
             ap (λ (y : Header). Read y) (w .1) ∙ said (next ∙ at)

@@ -1,6 +1,6 @@
 -- One scan of the table finds what `scanOf` says. Assumes nothing.
 use Prim.Native.Nat.{ℕ, zero, suc, _+_, _≤_, _<_}
-use mathlib.Core.Path.{_≡_, refl, sym, ap, _∙_}
+use mathlib.Core.Path.{_≡_, refl, ap, _∙_}
 use mathlib.Core.Bool.{Bool, true, false, cond, not}
 use mathlib.Core.List.{List, [], _∷_}
 use native.Mathlib.Omega.{arith}
@@ -9,9 +9,9 @@ use native.Mathlib.Numerals.{add-one}
 use lib.Dec.{ltb}
 use lib.ListN.{length, drop, getD, drop-of-length-le}
 use lib.Seq.{drop-cons}
-use borrow.Author.Tests.{ltb-true, ltb-false, lt-ltb, le-ltb}
+use borrow.Author.Tests.{ltb-false, lt-ltb}
 use Rattle.listener.specs.Lists.{bit, tally, firstIndex}
-use Rattle.listener.specs.Table.{isLive, isPending, freeSlot, holds, scanOf}
+use Rattle.listener.specs.Table.{isLive, isPending, freeSlot, holdsPeer, scanOf}
 use Rattle.listener.specs.Scan.{earliest, counted, seenWith}
 use Rattle.listener.specs.declared.table.Slot.{Slot}
 use Rattle.listener.specs.declared.table.Scan.{Scan}
@@ -82,19 +82,19 @@ module _ (t : ℕ) (b : List ℕ) (port : ℕ) (slots : List Slot) where
 
   -- what is known when the scan has come to place i
   pub record Seen (i : ℕ) (seen : Scan) : Type 0 where
-    pub place : firstFrom (holds t b port) i (drop i slots) (seen .place) ≡ firstIndex (holds t b port) slots
+    pub place : firstFrom (holdsPeer t b port) i (drop i slots) (seen .place) ≡ firstIndex (holdsPeer t b port) slots
     pub free : firstFrom vacant i (drop i slots) (seen .free) ≡ firstIndex vacant slots
     pub pending : seen .pending + tally pends (drop i slots) ≡ tally pends slots
     pub few : seen .pending ≤ i
 
   pub seen-start : length slots ≡ 64 → Seen 0 (record { place = 64; free = 64; pending = 0 })
-  seen-start n = record { place = first-start (holds t b port) slots n; free = first-start vacant slots n; pending = omega arith; few = omega arith }
+  seen-start n = record { place = first-start (holdsPeer t b port) slots n; free = first-start vacant slots n; pending = omega arith; few = omega arith }
 
   pub seen-on : (i : ℕ) (seen next : Scan) → i < length slots → Seen i seen → next ≡ seenWith seen i t b port (getD slots i freeSlot) → Seen (i + 1) next
   unfolding seenWith
   seen-on i seen next h k e =
       rw e record {
-        place = first-on (holds t b port) slots i (seen .place) _ h (k .place);
+        place = first-on (holdsPeer t b port) slots i (seen .place) _ h (k .place);
         free = first-on vacant slots i (seen .free) _ h (k .free);
         pending = count-on pends slots i (seen .pending) _ h (k .pending);
         few = counted-most (seen .pending) i (pends (getD slots i freeSlot)) (k .few);
@@ -102,7 +102,7 @@ module _ (t : ℕ) (b : List ℕ) (port : ℕ) (slots : List Slot) where
 
   pub seen-end : (i : ℕ) (seen : Scan) → length slots ≤ i → Seen i seen → seen ≡ scanOf t b port slots
   seen-end i seen h k =
-      let p = first-end (holds t b port) slots i (seen .place) _ h (k .place) in
+      let p = first-end (holdsPeer t b port) slots i (seen .place) _ h (k .place) in
       let f = first-end vacant slots i (seen .free) _ h (k .free) in
       let n = count-end pends slots i (seen .pending) _ h (k .pending) in
       λ j. record { place = p j; free = f j; pending = n j }

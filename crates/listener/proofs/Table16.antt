@@ -1,27 +1,29 @@
 -- Document 01, "The table of sixteen", proved: the segment crate's rows, and the three that speak of a call. Assumes nothing.
 use Prim.Native.Nat.{ℕ, _+_, _≤_, _<_}
 use mathlib.Core.Path.{_≡_, refl, ap, _∙_}
-use mathlib.Core.Bool.{true, false, and-false}
+use mathlib.Core.Bool.{Bool, true, false, cond, not, _&&_, and-false}
 use mathlib.Core.List.{List}
 use native.Mathlib.Omega.{arith}
-use borrow.Author.Tests.{le-ltb}
-use lib.ListN.{length, replicate}
-use Rattle.segment.specs.declared.write.Answer.{Answer}
+use borrow.Author.Tests.{le-ltb, eq-eqb}
+use Rattle.segment.specs.Refusal.{refusal}
+use Rattle.segment.specs.Sequence.{inWindow}
+use Rattle.segment.specs.declared.refusal.Refusal.the-variants.{Sequence}
+use Rattle.segment.specs.declared.refusal.Check.the-variants.{Clear, Refused}
+use Rattle.segment.specs.declared.header.Header.{Header}
+use Rattle.segment.specs.declared.header.Kind.the-variants.{Ack}
 use Rattle.segment.proofs.Sixteen.{row1, row2, row3, row4, row5, row6, row7, row8, row9, row10, row11, row12, row16}
-use Rattle.segment.proofs.Exchange.{answer-bytes}
 use Rattle.listener.specs.Address.{block}
-use Rattle.listener.specs.Cookie.{cookieUnder}
 use Rattle.listener.specs.Table.{pendingAt}
 use Rattle.listener.specs.Call.{segment, sender}
-use Rattle.listener.specs.View.{view, ownAddress}
-use Rattle.listener.specs.Step.{cookiesRun, isEarly, isFresh, answerFrom, step, pendingNumber}
-use Rattle.listener.specs.Sixteen.{NewOpening, HasRight, Sixteen}
+use Rattle.listener.specs.View.{view}
+use Rattle.listener.specs.Step.{cookiesRun, isEarly, isFresh, accepts, step, pendingNumber}
+use Rattle.listener.specs.Refusals.{completes, kindChecks}
+use Rattle.listener.specs.Sixteen.{NewOpening, HasRight, CompletesFive, Sixteen}
 use Rattle.listener.specs.declared.state.View.{View}
 use Rattle.listener.specs.declared.state.Listener.{Listener}
 use Rattle.listener.specs.declared.answer.Event.the-variants as events
-use Rattle.segment.proofs.Family.{family-back, right-family}
-use Rattle.segment.proofs.Exchange.{answer-without}
-use Rattle.listener.proofs.Openings.{slotFor, upTo, pending-put, is-early, clear-new, step-new}
+use Rattle.listener.proofs.Answers.{opening-written}
+use Rattle.listener.proofs.Openings.{slotFor, pending-put, is-early, clear-new, step-new}
 
 -- where pending is at the limit no cookie is taken or given
 at-limit : (l : Listener) (t : ℕ) (src seg : List ℕ) → l .settings .limit ≤ pendingAt t (l .slots) → cookiesRun (view l t (sender src seg)) ≡ false
@@ -41,35 +43,39 @@ module _ (l : Listener) (t : ℕ) (src seg : List ℕ) (iss room : ℕ) (o : New
       → (step l (segment t src seg iss room) .event ≡ events.Regular) × (step l (segment t src seg iss room) .written ≡ 24)
   at-limit-plain h =
       let v : View = view l t (sender src seg) in
-      let own : List ℕ = ownAddress (l .home) in
       let still = at-limit l t src seg h in
-      let k = clear-new l t src seg iss room (o .syn) (o .new) (o .clear) in
       let e = step-new l t src seg iss room (o .syn) (o .new) false (not-early v (block src) seg still) (o .clear) in
-      let a : Answer = answerFrom (l .home) (l .settings .mss) (slotFor false src seg iss (upTo l seg)) false in
-      -- the cookie is not written, so any eight bytes stand for it
-      let any = answer-without own src a (cookieUnder (l .keys .present) (block src)) (replicate 8 0) room refl in
-      let bytes = answer-bytes own src a (replicate 8 0) room (family-back src own (right-family src own seg (k .checksum))) refl (k .output) in
-      (rw e, rw (e, not-fresh v (block src) seg still) (ap length any ∙ bytes))
+      (rw e, opening-written l t src seg iss room (o .clear) (o .syn) ∙ rw (e, not-fresh v (block src) seg still))
 
   -- below it, with a right cookie, it is early, and pending is one more
   below-limit-early : l .settings .on ≡ true → pendingAt t (l .slots) < l .settings .limit → HasRight l src seg
-      → (step l (segment t src seg iss room) .event ≡ events.FastOpen (upTo l seg))
+      → (step l (segment t src seg iss room) .event ≡ events.FastOpen (accepts (l .settings) seg))
       × (pendingNumber (step l (segment t src seg iss room) .listener) ≡ pendingAt t (l .slots) + 1)
   unfolding pendingNumber
   below-limit-early on h r =
       let k = clear-new l t src seg iss room (o .syn) (o .new) (o .clear) in
       let e = step-new l t src seg iss room (o .syn) (o .new) true (is-early l t src seg on h r) (o .clear) in
-      let s = slotFor true src seg iss (upTo l seg) in
+      let s = slotFor true src seg iss (accepts (l .settings) seg) in
       (rw e, rw (e, k .started) (pending-put t (l .slots) s (rw (o .slots) (k .place))))
+
+-- a completion where 5 is expected is admitted by its sequence number alone
+five : (v : View) (h : Header) (n : ℕ) (inside : Bool) → CompletesFive v h → h .seq ≡ n → inWindow 5 n ≡ inside
+    → refusal (kindChecks v h Ack) ≡ cond inside Clear (Refused Sequence)
+unfolding completes
+five v h n inside c s w = rw (c .waits, c .five, s, w, eq-eqb _ _ (c .acknowledges)) (go inside)
+  where
+    go : (b : Bool) → cond (not (b && true)) (Refused Sequence) Clear ≡ cond b Clear (Refused Sequence)
+    go true = refl
+    go false = refl
 
 pub sixteen : Sixteen
 sixteen =
     record {
-      row1 = row1;
-      row2 = row2;
-      row3 = row3;
-      row4 = row4;
-      row5 = row5;
+      row1 = λ a i n. rw (i, n) row1;
+      row2 = λ a i n. rw (i, n) row2;
+      row3 = λ v h c s. five v h 65539 true c s row3;
+      row4 = λ v h c s. five v h 65540 false c s row4;
+      row5 = λ v h c s. five v h 4 false c s row5;
       row6 = row6;
       row7 = row7;
       row8 = row8;

@@ -14,9 +14,9 @@ use Rattle.segment.proofs.Numbers.{none-applies}
 use Rattle.listener.specs.Lists.{bit, tally}
 use Rattle.listener.specs.Address.{Peer, block}
 use Rattle.listener.specs.Cookie.{carriedBy, right}
-use Rattle.listener.specs.Table.{isLive, isPending, freeSlot, holds, freePlace, pendingAt}
+use Rattle.listener.specs.Table.{isLive, isPending, freeSlot, holdsPeer, freePlace, pendingAt}
 use Rattle.listener.specs.Call.{sender, acceptedPart}
-use Rattle.listener.specs.View.{isLate, known, view}
+use Rattle.listener.specs.View.{isUntimely, known, view}
 use Rattle.listener.specs.Refusals.{wireChecks}
 use Rattle.listener.specs.Step.{put, step}
 use Rattle.listener.specs.Twins.{Arrival, callOf, Opens, TwoOpenings, upToRoom, BothEarly}
@@ -49,7 +49,7 @@ and-most false false c h = omega arith
 -- Slots
 
 other-port : (t : ℕ) (p : Peer) (s : Slot) → (s .port ≡ p .port → ⊥) → holding t p s ≡ false
-unfolding holds
+unfolding holdsPeer
 other-port t p s h = rw (ne-eqb (s .port) (p .port) h) (and-false (isLive t (s .status)))
 
 -- from one time to a later one
@@ -77,8 +77,8 @@ module _ (t u : ℕ) (later : t ≤ u) where
   pending-earlier (ResetHeld end) = end-earlier end
   pending-earlier Established = omega arith
 
-  holds-earlier : (b : List ℕ) (port : ℕ) (s : Slot) → bit (holds u b port s) ≤ bit (holds t b port s)
-  unfolding holds
+  holds-earlier : (b : List ℕ) (port : ℕ) (s : Slot) → bit (holdsPeer u b port s) ≤ bit (holdsPeer t b port s)
+  unfolding holdsPeer
   holds-earlier b port s = and-most (isLive u (s .status)) (isLive t (s .status)) _ (live-earlier (s .status))
 
   -- a slot is set in between
@@ -133,7 +133,7 @@ early l src a o new free on below r =
 -- a clear one is not before the listener's clock
 on-time : (l : Listener) (src : List ℕ) (a : Arrival) → Opens l src a → l .clock ≤ a .time
 on-time l src a o =
-    let n = none-applies order (wireChecks (l .home) (isLate (l .clock) (a .time)) src (a .seg) (a .room)) (o .clear) in
+    let n = none-applies order (wireChecks (l .home) (isUntimely (l .clock) (a .time)) src (a .seg) (a .room)) (o .clear) in
     ltb-false (a .time) (l .clock) (or-false (ltb (a .time) (l .clock)) _ (n .1 .0) .0)
 
 -- Two openings

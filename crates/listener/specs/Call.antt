@@ -1,13 +1,12 @@
 -- Document 01, "Listener": the calls that carry a time, and what an answer says.
 -- Assumes nothing.
-use Prim.Native.Nat.{ℕ, _-_}
+use Prim.Native.Nat.{ℕ}
 use mathlib.Core.List.{List, []}
-use mathlib.Core.Bool.{Bool, cond}
+use mathlib.Core.Bool.{cond}
 use lib.Dec.{ltb}
 use lib.ListN.{length, take}
 use Rattle.segment.specs.Refusal.{numberOf}
 use Rattle.segment.specs.Header.{payloadOf, fieldsOf}
-use Rattle.segment.specs.declared.refusal.Refusal.{Refusal}
 use Rattle.listener.specs.Address.{Peer}
 use Rattle.listener.specs.declared.state.Settings.{Settings}
 use Rattle.listener.specs.declared.answer.Event.{Event}

@@ -11,9 +11,9 @@ use Rattle.segment.specs.declared.options.FastOpen.{FastOpen}
 use Rattle.segment.specs.declared.options.FastOpen.the-variants.{Absent, Request, Cookie}
 use Rattle.listener.specs.Lists.{sameBytes}
 use Rattle.listener.specs.declared.state.Keys.{Keys}
-use Rattle.listener.specs.declared.cookie.Offer.{Offer}
+use Rattle.listener.specs.declared.cookie.OptionCheck.{OptionCheck}
 
--- the first 8 bytes of an address's block, encrypted under a key's round keys
+-- the first 8 bytes of the encryption of an address's block, under a key's round keys
 unfoldable pub cookieUnder : List ℕ → List ℕ → List ℕ
 cookieUnder roundKeys b = take 8 (cipher roundKeys b)
 
@@ -48,8 +48,8 @@ unfoldable pub right : Keys → List ℕ → Carried → Bool
 right k b o = rightUnder (k .present) b o || (k .rotated && rightUnder (k .previous) b o)
 
 -- what is made of a cookie that was given: whether it is right, and whether the fresh one, under the present key, is to replace it
-abbrev pub weighed : Keys → List ℕ → List ℕ → Offer
-weighed k b given =
+abbrev pub cookieCheck : Keys → List ℕ → List ℕ → OptionCheck
+cookieCheck k b given =
     record {
       right = right k b (cookie given);
       fresh = not (rightUnder (k .present) b (cookie given));

@@ -20,8 +20,8 @@ segmentOf (resend t a p room) = []
 segmentOf (close t a p) = []
 
 -- what the listener's answer to a call says
-abbrev pub told : Call → Event → Said
-told c e = record { verdict = verdictOf e; accepted = acceptedOf e; part = acceptedPart (segmentOf c) e }
+abbrev pub answerSays : Call → Event → Said
+answerSays c e = record { verdict = verdictOf e; accepted = acceptedOf e; part = acceptedPart (segmentOf c) e }
 
 -- The listener after a list of calls, each on the listener that the last one left, and its answers.
 unfoldable pub listenerAfter : Listener → List Call → Listener
@@ -30,7 +30,7 @@ listenerAfter l (c ∷ cs) = listenerAfter (step l c .listener) cs
 
 unfoldable pub answers : Listener → List Call → List Said
 answers l [] = []
-answers l (c ∷ cs) = told c (step l c .event) ∷ answers (step l c .listener) cs
+answers l (c ∷ cs) = answerSays c (step l c .event) ∷ answers (step l c .listener) cs
 
 -- the calls with the numbers that they were answered: all that the journal is fed
 pub record Fed : Type 0 where

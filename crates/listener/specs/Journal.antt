@@ -16,10 +16,10 @@ use Rattle.listener.specs.Cookie.{Carried, carriedBy, rightUnder}
 use Rattle.listener.specs.Call.{Call, segment, settings, key, abandon, resend, close, sender, timeOf, Verdict, early, plain, repeat, unjudged}
 use Rattle.listener.specs.declared.state.Settings.{Settings}
 
--- what is written of a connection
+-- what is noted of a connection
 pub data Mark : Type 0 where
-  isPlain isEarly isOpen : Mark
-  isHeld : ℕ → Mark
+  markPlain markEarly markOpen : Mark
+  markHeld : ℕ → Mark
 
 -- an entry, by name
 pub record Entry : Type 0 where
@@ -50,10 +50,10 @@ begun own port k =
 
 -- Its pending: the early entries, and the held ones that end after its time.
 abbrev pub pends : ℕ → Mark → Bool
-pends t isPlain = false
-pends t isEarly = true
-pends t isOpen = false
-pends t (isHeld end) = ltb t end
+pends t markPlain = false
+pends t markEarly = true
+pends t markOpen = false
+pends t (markHeld end) = ltb t end
 
 abbrev pub pendingOf : Journal → ℕ
 pendingOf j = tally (λ e. pends (j .time) (e .mark)) (j .entries)
@@ -73,10 +73,10 @@ has p entries = ltb 0 (tally (named p) entries)
 
 -- a held one that ends at or before the time is struck out
 abbrev pub keptMark : ℕ → Peer → Mark → List Entry
-keptMark t p isPlain = record { who = p; mark = isPlain } ∷ []
-keptMark t p isEarly = record { who = p; mark = isEarly } ∷ []
-keptMark t p isOpen = record { who = p; mark = isOpen } ∷ []
-keptMark t p (isHeld end) = cond (ltb t end) (record { who = p; mark = isHeld end } ∷ []) []
+keptMark t p markPlain = record { who = p; mark = markPlain } ∷ []
+keptMark t p markEarly = record { who = p; mark = markEarly } ∷ []
+keptMark t p markOpen = record { who = p; mark = markOpen } ∷ []
+keptMark t p (markHeld end) = cond (ltb t end) (record { who = p; mark = markHeld end } ∷ []) []
 
 abbrev pub kept : ℕ → Entry → List Entry
 kept t e = keptMark t (e .who) (e .mark)
@@ -89,14 +89,14 @@ abbrev pub struck : Entry → List Entry
 struck e = []
 
 abbrev pub completed : Entry → List Entry
-completed e = record { who = e .who; mark = isOpen } ∷ []
+completed e = record { who = e .who; mark = markOpen } ∷ []
 
 -- plain is struck out, early is held until an end
 abbrev pub resetMark : ℕ → Peer → Mark → List Entry
-resetMark end p isPlain = []
-resetMark end p isEarly = record { who = p; mark = isHeld end } ∷ []
-resetMark end p isOpen = record { who = p; mark = isOpen } ∷ []
-resetMark end p (isHeld e) = record { who = p; mark = isHeld e } ∷ []
+resetMark end p markPlain = []
+resetMark end p markEarly = record { who = p; mark = markHeld end } ∷ []
+resetMark end p markOpen = record { who = p; mark = markOpen } ∷ []
+resetMark end p (markHeld e) = record { who = p; mark = markHeld e } ∷ []
 
 abbrev pub wasReset : ℕ → Entry → List Entry
 wasReset end e = resetMark end (e .who) (e .mark)
@@ -122,8 +122,8 @@ unfoldable pub opensEarly : Journal → List ℕ → List ℕ → Bool
 opensEarly j src seg = settingsOf j .on && (ltb (pendingOf j) (settingsOf j .limit) && hasRight j src seg)
 
 abbrev pub newMark : Bool → Mark
-newMark true = isEarly
-newMark false = isPlain
+newMark true = markEarly
+newMark false = markPlain
 
 -- a name with an entry is a repeat; another gets one
 abbrev pub opened : Bool → Journal → List ℕ → List ℕ → Journal
@@ -137,23 +137,23 @@ abbrev pub turnedTo : ℕ → Journal → Journal
 turnedTo t j =
     record { time = t; settings = j .settings; present = j .present; previous = j .previous; entries = amend (kept t) (j .entries) }
 
-unfoldable pub segmentWritten : Journal → List ℕ → List ℕ → Kind → Journal
-segmentWritten j src seg Syn = opened (has (sender src seg) (j .entries)) j src seg
-segmentWritten j src seg Ack = amended j (sender src seg) completed
-segmentWritten j src seg Rst = amended j (sender src seg) (wasReset (j .time + settingsOf j .hold))
-segmentWritten j src seg Other = j
+unfoldable pub segmentNoted : Journal → List ℕ → List ℕ → Kind → Journal
+segmentNoted j src seg Syn = opened (has (sender src seg) (j .entries)) j src seg
+segmentNoted j src seg Ack = amended j (sender src seg) completed
+segmentNoted j src seg Rst = amended j (sender src seg) (wasReset (j .time + settingsOf j .hold))
+segmentNoted j src seg Other = j
 
-unfoldable pub written : Journal → Call → Journal
-written j (segment t src seg iss room) = segmentWritten j src seg (kindOf (fieldsOf seg .flags))
-written j (settings t g) = record { time = j .time; settings = g; present = j .present; previous = j .previous; entries = j .entries }
-written j (key t k) = record { time = j .time; settings = j .settings; present = k; previous = aKey (j .present); entries = j .entries }
-written j (abandon t a p) = amended j (record { address = a; port = p }) struck
-written j (resend t a p room) = j
-written j (close t a p) = amended j (record { address = a; port = p }) struck
+unfoldable pub noted : Journal → Call → Journal
+noted j (segment t src seg iss room) = segmentNoted j src seg (kindOf (fieldsOf seg .flags))
+noted j (settings t g) = record { time = j .time; settings = g; present = j .present; previous = j .previous; entries = j .entries }
+noted j (key t k) = record { time = j .time; settings = j .settings; present = k; previous = aKey (j .present); entries = j .entries }
+noted j (abandon t a p) = amended j (record { address = a; port = p }) struck
+noted j (resend t a p room) = j
+noted j (close t a p) = amended j (record { address = a; port = p }) struck
 
 -- a call and the number that it was answered: a refused one leaves the journal as it is
 unfoldable pub feed : Journal → Call → ℕ → Journal
-feed j c zero = written (turnedTo (timeOf c) j) c
+feed j c zero = noted (turnedTo (timeOf c) j) c
 feed j c (suc n) = j
 
 -- What it says of a call's answer: the verdict, the accepted count and the accepted part, that many bytes from the payload's start.

@@ -1,5 +1,6 @@
--- The listener, as document 01 defines it. In reading order: lists; addresses and names; the cookie; the slots; the calls and what an answer says; what a
--- call sees of the listener; its refusals; the call itself; the journal of the calls; and demand 3.
+-- The listener, as document 01 defines it. In reading order: lists; addresses and names; the cookie; the slots (and `Scan`, for the code alone); the calls and
+-- what an answer says; what a call sees of the listener; its refusals; the call itself; the journal of the calls and demand 3; the two openings; and the
+-- table of sixteen.
 pub mod Lists
 pub mod Address
 pub mod Cookie

@@ -9,7 +9,6 @@ use Rattle.segment.specs.Refusal.{Checks, refusal}
 use Rattle.segment.specs.Header.{malformed, fieldsOf, kindOf}
 use Rattle.segment.specs.Checksum.{checksumRight}
 use Rattle.segment.specs.Sequence.{nextAfter, inWindow}
-use Rattle.segment.specs.declared.refusal.Refusal.{Refusal}
 use Rattle.segment.specs.declared.refusal.Refusal.the-variants.{Format, Address, Checksum, Port, Time, Flags, NameInUse, TableFull, NoConnection, Sequence, Output, Range, NotStarted}
 use Rattle.segment.specs.declared.refusal.Check.{Check}
 use Rattle.segment.specs.declared.refusal.Check.the-variants.{Clear, Refused}
@@ -31,11 +30,11 @@ use Rattle.listener.specs.declared.checks.Received.the-variants.{Dropped
 
 -- Named checks
 
--- 12: limit 0 to 64, early room 0 to 1,460, hold 0 to 65,535, MSS 536 to 1,460
+-- not 12: limit 0 to 64, early room 0 to 1,460, hold 0 to 65,535, MSS 536 to 1,460
 unfoldable pub inRange : Settings → Bool
 inRange g = leb (g .limit) 64 && (leb (g .room) 1460 && (leb (g .hold) 65535 && (leb 536 (g .mss) && leb (g .mss) 1460)))
 
--- 12: a key has 16 bytes
+-- not 12: a key has 16 bytes
 abbrev pub isKey : List ℕ → Bool
 isKey k = eqb (length k) 16
 
@@ -47,18 +46,18 @@ repeats s h = isWaiting (s .status) && eqb (h .seq) (s .irs)
 abbrev pub expected : Slot → ℕ
 expected s = nextAfter (s .irs) (acceptedWith (s .status))
 
--- 10: a completion's sequence number lies in the window and it acknowledges our initial number + 1
+-- not 10: a completion's sequence number lies in the window and it acknowledges our initial number + 1
 unfoldable pub completes : Slot → Header → Bool
 completes s h = inWindow (expected s) (h .seq) && eqb (h .ack) (nextAfter (s .iss) 0)
 
--- 10: a reset's sequence number is exactly the expected one
+-- not 10: a reset's sequence number is exactly the expected one
 unfoldable pub resets : Slot → Header → Bool
 resets s h = eqb (h .seq) (expected s)
 
 -- Checks that calls share
 
 abbrev pub timely : Home → Bool → Checks
-timely h late = (NotStarted, not (h .started)) ∷ (Time, late) ∷ []
+timely h untimely = (NotStarted, not (h .started)) ∷ (Time, untimely) ∷ []
 
 abbrev pub addressed : Home → List ℕ → Checks
 addressed h a = (Address, not (isAddress (h .family) a)) ∷ []
@@ -72,32 +71,32 @@ abbrev pub waiting : Slot → Checks
 waiting s = (NoConnection, not (isWaiting (s .status))) ∷ []
 
 -- and whose numbers are admitted
-abbrev pub numbersChecks : Slot → Bool → Checks
-numbersChecks s admitted = waiting s ++ ((Sequence, not admitted) ∷ [])
+abbrev pub sequenceChecks : Slot → Bool → Checks
+sequenceChecks s admitted = waiting s ++ ((Sequence, not admitted) ∷ [])
 
 -- by the kind of segment
 abbrev pub kindChecks : View → Header → Kind → Checks
-kindChecks v h Syn = (NameInUse, known v && not (repeats (v .slot) h)) ∷ (TableFull, not (known v || v .room)) ∷ []
-kindChecks v h Ack = numbersChecks (v .slot) (completes (v .slot) h)
-kindChecks v h Rst = numbersChecks (v .slot) (resets (v .slot) h)
+kindChecks v h Syn = (NameInUse, known v && not (repeats (v .slot) h)) ∷ (TableFull, not (known v || v .vacant)) ∷ []
+kindChecks v h Ack = sequenceChecks (v .slot) (completes (v .slot) h)
+kindChecks v h Rst = sequenceChecks (v .slot) (resets (v .slot) h)
 kindChecks v h Other = (Flags, true) ∷ []
 
 -- what is asked of a segment before its kind is looked at
 abbrev pub wireChecks : Home → Bool → List ℕ → List ℕ → ℕ → Checks
-wireChecks h late src seg room =
-    timely h late ++ addressed h src ++ roomy room
+wireChecks h untimely src seg room =
+    timely h untimely ++ addressed h src ++ roomy room
     ++ ((Format, malformed seg)
     ∷ (Checksum, not (checksumRight src (ownAddress h) seg))
     ∷ (Port, not (eqb (fieldsOf seg .dest) (h .port))) ∷ [])
 
 -- the checks of a call
 abbrev pub checks : View → Call → Checks
-checks v (segment t src seg iss room) = wireChecks (v .home) (v .late) src seg room ++ kindChecks v (fieldsOf seg) (kindOf (fieldsOf seg .flags))
-checks v (settings t g) = timely (v .home) (v .late) ++ ((Range, not (inRange g)) ∷ [])
-checks v (key t k) = timely (v .home) (v .late) ++ ((Range, not (isKey k)) ∷ [])
-checks v (abandon t a p) = timely (v .home) (v .late) ++ addressed (v .home) a ++ waiting (v .slot)
-checks v (resend t a p room) = timely (v .home) (v .late) ++ addressed (v .home) a ++ roomy room ++ waiting (v .slot)
-checks v (close t a p) = timely (v .home) (v .late) ++ addressed (v .home) a ++ ((NoConnection, not (isEstablished (v .slot .status))) ∷ [])
+checks v (segment t src seg iss room) = wireChecks (v .home) (v .untimely) src seg room ++ kindChecks v (fieldsOf seg) (kindOf (fieldsOf seg .flags))
+checks v (settings t g) = timely (v .home) (v .untimely) ++ ((Range, not (inRange g)) ∷ [])
+checks v (key t k) = timely (v .home) (v .untimely) ++ ((Range, not (isKey k)) ∷ [])
+checks v (abandon t a p) = timely (v .home) (v .untimely) ++ addressed (v .home) a ++ waiting (v .slot)
+checks v (resend t a p room) = timely (v .home) (v .untimely) ++ addressed (v .home) a ++ roomy room ++ waiting (v .slot)
+checks v (close t a p) = timely (v .home) (v .untimely) ++ addressed (v .home) a ++ ((NoConnection, not (isEstablished (v .slot .status))) ∷ [])
 
 -- what the checks of a call come to: the first refusal, in 01's order, that applies
 unfoldable pub judged : Listener → Call → Check

@@ -1,10 +1,10 @@
 -- The scan of the table, slot by slot. No document has it: it carries `scanOf` to the code.
 -- Assumes nothing.
 use Prim.Native.Nat.{ℕ, suc}
-use mathlib.Core.List.{List, [], _∷_}
+use mathlib.Core.List.{List}
 use mathlib.Core.Bool.{Bool, not, cond}
 use lib.Dec.{ltb}
-use Rattle.listener.specs.Table.{isLive, isPending, holds}
+use Rattle.listener.specs.Table.{isLive, isPending, holdsPeer}
 use Rattle.listener.specs.declared.table.Slot.{Slot}
 use Rattle.listener.specs.declared.table.Scan.{Scan}
 
@@ -18,7 +18,7 @@ counted n here = cond here (suc n) n
 unfoldable pub seenWith : Scan → ℕ → ℕ → List ℕ → ℕ → Slot → Scan
 seenWith seen i t b port s =
     record {
-      place = earliest (seen .place) i (holds t b port s);
+      place = earliest (seen .place) i (holdsPeer t b port s);
       free = earliest (seen .free) i (not (isLive t (s .status)));
       pending = counted (seen .pending) (isPending t (s .status));
     }

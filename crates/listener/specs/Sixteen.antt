@@ -1,25 +1,30 @@
 -- Document 01, "The table of sixteen": one table of statements about the definitions that the contracts cite.
 -- Assumes nothing.
-use Prim.Native.Nat.{ℕ, _+_, _≤_, min}
+use Prim.Native.Nat.{ℕ, _≤_}
 use mathlib.Core.Path.{_≡_}
 use mathlib.Core.List.{List, [], _∷_}
 use mathlib.Core.Bool.{true, false}
 use lib.ListN.{length}
-use Rattle.segment.specs.Header.{fieldsOf, payloadOf, kindOf}
-use Rattle.segment.specs.Sequence.{nextAfter, inWindow}
+use Rattle.segment.specs.Header.{fieldsOf, kindOf}
+use Rattle.segment.specs.Refusal.{refusal}
+use Rattle.segment.specs.Sequence.{nextAfter}
 use Rattle.segment.specs.Options.{nothing, readOptions}
-use Rattle.segment.specs.Write.{answerBytes}
-use Rattle.segment.proofs.Sixteen.{only, FoundCookie, EarlierStands}
+use Rattle.segment.specs.Write.{answerFields, answerBytes}
+use Rattle.segment.specs.Found.{onlyFastOpen, FoundCookie, EarlierStands}
 use Rattle.segment.specs.declared.options.FastOpen.the-variants.{Request}
-use Rattle.segment.specs.declared.refusal.Check.the-variants.{Clear}
-use Rattle.segment.specs.declared.header.Kind.the-variants.{Syn}
+use Rattle.segment.specs.declared.refusal.Refusal.the-variants.{Sequence}
+use Rattle.segment.specs.declared.refusal.Check.the-variants.{Clear, Refused}
+use Rattle.segment.specs.declared.header.Header.{Header}
+use Rattle.segment.specs.declared.header.Kind.the-variants.{Syn, Ack}
+use Rattle.segment.specs.declared.write.Answer.{Answer}
 use Rattle.listener.specs.Address.{block}
 use Rattle.listener.specs.Cookie.{carriedBy, right}
-use Rattle.listener.specs.Table.{pendingAt}
+use Rattle.listener.specs.Table.{isWaiting, pendingAt}
 use Rattle.listener.specs.Call.{segment, sender}
 use Rattle.listener.specs.View.{known, view}
-use Rattle.listener.specs.Refusals.{judged}
-use Rattle.listener.specs.Step.{step, pendingNumber}
+use Rattle.listener.specs.Refusals.{expected, kindChecks, judged}
+use Rattle.listener.specs.Step.{accepts, step, pendingNumber}
+use Rattle.listener.specs.declared.state.View.{View}
 use Rattle.listener.specs.declared.state.Listener.{Listener}
 use Rattle.listener.specs.declared.answer.Event.the-variants as events
 
@@ -34,18 +39,24 @@ pub record NewOpening (l : Listener) (t : ℕ) (src seg : List ℕ) (iss room : 
 abbrev pub HasRight : Listener → List ℕ → List ℕ → Type 0
 HasRight l src seg = right (l .keys) (block src) (carriedBy seg) ≡ true
 
+-- a completion for a connection that waits for it, whose next sequence number is 5, with the right acknowledgement
+pub record CompletesFive (v : View) (h : Header) : Type 0 where
+  pub waits : isWaiting (v .slot .status) ≡ true
+  pub five : expected (v .slot) ≡ 5
+  pub acknowledges : h .ack ≡ nextAfter (v .slot .iss) 0
+
 pub record Sixteen : Type 0 where
-  -- acknowledgements
-  pub row1 : nextAfter 4294967295 0 ≡ 0
-  pub row2 : nextAfter 4294967290 10 ≡ 5
-  -- the window of a completion; what is not admitted is refused 10
-  pub row3 : inWindow 5 65539 ≡ true
-  pub row4 : inWindow 5 65540 ≡ false
-  pub row5 : inWindow 5 4 ≡ false
+  -- the acknowledgement of an answer to a number with so many bytes accepted
+  pub row1 : (a : Answer) → a .irs ≡ 4294967295 → a .accepted ≡ 0 → answerFields a .ack ≡ 0
+  pub row2 : (a : Answer) → a .irs ≡ 4294967290 → a .accepted ≡ 10 → answerFields a .ack ≡ 5
+  -- a completion where 5 is expected: admitted, or refused 10
+  pub row3 : (v : View) (h : Header) → CompletesFive v h → h .seq ≡ 65539 → refusal (kindChecks v h Ack) ≡ Clear
+  pub row4 : (v : View) (h : Header) → CompletesFive v h → h .seq ≡ 65540 → refusal (kindChecks v h Ack) ≡ Refused Sequence
+  pub row5 : (v : View) (h : Header) → CompletesFive v h → h .seq ≡ 4 → refusal (kindChecks v h Ack) ≡ Refused Sequence
   -- options: a request; skipped, so that one behind is found; a cookie; reading ends, and one before stands
-  pub row6 : readOptions (34 ∷ 2 ∷ []) ≡ only Request
-  pub row7 : (readOptions (34 ∷ 3 ∷ 0 ∷ []) ≡ nothing) × (readOptions (34 ∷ 3 ∷ 0 ∷ 34 ∷ 2 ∷ []) ≡ only Request)
-  pub row8 : (readOptions (34 ∷ 4 ∷ 1 ∷ 2 ∷ []) ≡ nothing) × (readOptions (34 ∷ 4 ∷ 1 ∷ 2 ∷ 34 ∷ 2 ∷ []) ≡ only Request)
+  pub row6 : readOptions (34 ∷ 2 ∷ []) ≡ onlyFastOpen Request
+  pub row7 : (readOptions (34 ∷ 3 ∷ 0 ∷ []) ≡ nothing) × (readOptions (34 ∷ 3 ∷ 0 ∷ 34 ∷ 2 ∷ []) ≡ onlyFastOpen Request)
+  pub row8 : (readOptions (34 ∷ 4 ∷ 1 ∷ 2 ∷ []) ≡ nothing) × (readOptions (34 ∷ 4 ∷ 1 ∷ 2 ∷ 34 ∷ 2 ∷ []) ≡ onlyFastOpen Request)
   pub row9 : (a b c d : ℕ) → FoundCookie (a ∷ b ∷ c ∷ d ∷ []) (34 ∷ 6 ∷ a ∷ b ∷ c ∷ d ∷ [])
   pub row10 : (a b c d e f g h i j k l m n o p : ℕ)
       → FoundCookie (a ∷ b ∷ c ∷ d ∷ e ∷ f ∷ g ∷ h ∷ i ∷ j ∷ k ∷ l ∷ m ∷ n ∷ o ∷ p ∷ [])
@@ -59,7 +70,7 @@ pub record Sixteen : Type 0 where
   -- pending 1, limit 2, right cookie: early; pending 2
   pub row14 : (l : Listener) (t : ℕ) (src seg : List ℕ) (iss room : ℕ) → NewOpening l t src seg iss room
       → l .settings .on ≡ true → l .settings .limit ≡ 2 → pendingAt t (l .slots) ≡ 1 → HasRight l src seg
-      → (step l (segment t src seg iss room) .event ≡ events.FastOpen (min (length (payloadOf seg)) (l .settings .room)))
+      → (step l (segment t src seg iss room) .event ≡ events.FastOpen (accepts (l .settings) seg))
       × (pendingNumber (step l (segment t src seg iss room) .listener) ≡ 2)
   -- pending 2, limit 2, right cookie: plain, 24 bytes
   pub row15 : (l : Listener) (t : ℕ) (src seg : List ℕ) (iss room : ℕ) → NewOpening l t src seg iss room

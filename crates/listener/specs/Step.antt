@@ -6,7 +6,7 @@ use mathlib.Core.Bool.{Bool, true, false, cond, not, _&&_}
 use lib.Dec.{eqb}
 use lib.ListN.{length, replicate, set}
 use Rattle.cipher.specs.KeyExpansion.{keyExpansion}
-use Rattle.segment.specs.Refusal.{Checks, refusal, numberOf}
+use Rattle.segment.specs.Refusal.{Checks, refusal}
 use Rattle.segment.specs.Header.{fieldsOf, payloadOf, kindOf}
 use Rattle.segment.specs.Write.{answerBytes}
 use Rattle.segment.specs.declared.refusal.Refusal.the-variants.{Address, Range}
@@ -17,15 +17,14 @@ use Rattle.segment.specs.declared.header.Kind.{Kind}
 use Rattle.segment.specs.declared.header.Kind.the-variants.{Syn, Rst, Ack, Other}
 use Rattle.segment.specs.declared.write.Answer.{Answer}
 use Rattle.listener.specs.Address.{Peer, block}
-use Rattle.listener.specs.Cookie.{Carried, carriedBy, counts, cookieUnder, rightUnder, right}
-use Rattle.listener.specs.Table.{acceptedWith, afterReset, freeSlot, newSlot, turned, pendingAt}
-use Rattle.listener.specs.Call.{Call, segment, settings, key, abandon, resend, close, sender, timeOf, peerOf}
+use Rattle.listener.specs.Cookie.{carriedBy, counts, cookieUnder, rightUnder, right}
+use Rattle.listener.specs.Table.{acceptedWith, afterReset, freeSlot, newSlot, withStatus, pendingAt}
+use Rattle.listener.specs.Call.{Call, segment, settings, key, abandon, resend, close, sender}
 use Rattle.listener.specs.View.{known, ownAddress, scanFor, view, viewOf}
 use Rattle.listener.specs.Refusals.{isKey, judged}
 use Rattle.listener.specs.declared.address.Family.{Family}
 use Rattle.listener.specs.declared.address.Family.the-variants.{V4, V6}
-use Rattle.listener.specs.declared.table.Status.{Status}
-use Rattle.listener.specs.declared.table.Status.the-variants.{Free, SynReceived, FastOpen, ResetHeld, Established}
+use Rattle.listener.specs.declared.table.Status.the-variants.{Free, SynReceived, FastOpen, Established}
 use Rattle.listener.specs.declared.table.Slot.{Slot}
 use Rattle.listener.specs.declared.table.Scan.{Scan}
 use Rattle.listener.specs.declared.state.Settings.{Settings}
@@ -59,8 +58,8 @@ neverStarted =
 abbrev pub familyOf : List ℕ → Family
 familyOf a = cond (eqb (length a) 4) V4 V6
 
-abbrev pub fresh : List ℕ → ℕ → List ℕ → Listener
-fresh own port k =
+abbrev pub freshListener : List ℕ → ℕ → List ℕ → Listener
+freshListener own port k =
     blank (record { started = true; family = familyOf own; own = block own; port = port })
     (record { present = keyExpansion k; previous = replicate 176 0; rotated = false })
 
@@ -69,7 +68,7 @@ abbrev pub startChecks : List ℕ → List ℕ → Checks
 startChecks own k = (Address, not (eqb (length own) 4) && not (eqb (length own) 16)) ∷ (Range, not (isKey k)) ∷ []
 
 abbrev pub startedBy : List ℕ → ℕ → List ℕ → Check → Started
-startedBy own port k Clear = record { listener = fresh own port k; check = Clear }
+startedBy own port k Clear = record { listener = freshListener own port k; check = Clear }
 startedBy own port k (Refused r) = record { listener = neverStarted; check = Refused r }
 
 unfoldable pub startOf : List ℕ → ℕ → List ℕ → Started
@@ -89,13 +88,17 @@ isEarly v b seg = cookiesRun v && right (v .keys) b (carriedBy seg)
 unfoldable pub isFresh : View → List ℕ → List ℕ → Bool
 isFresh v b seg = cookiesRun v && (counts (carriedBy seg) && not (rightUnder (v .keys .present) b (carriedBy seg)))
 
+-- the accepted bytes of an early one: the smaller of payload and early room
+abbrev pub accepts : InForce → List ℕ → ℕ
+accepts g seg = min (length (payloadOf seg)) (g .room)
+
 abbrev pub newEvent : Bool → ℕ → Event
 newEvent true n = events.FastOpen n
 newEvent false n = events.Regular
 
 abbrev pub openingEvent : Bool → View → List ℕ → List ℕ → Event
 openingEvent true v b seg = events.Retransmission
-openingEvent false v b seg = newEvent (isEarly v b seg) (min (length (payloadOf seg)) (v .settings .room))
+openingEvent false v b seg = newEvent (isEarly v b seg) (accepts (v .settings) seg)
 
 -- What a done call answers
 
@@ -118,8 +121,8 @@ abbrev pub slotAfter : View → ℕ → List ℕ → Header → ℕ → Event �
 slotAfter v t b h iss (events.FastOpen n) = newSlot b (h .source) (h .seq) iss (FastOpen n)
 slotAfter v t b h iss events.Regular = newSlot b (h .source) (h .seq) iss SynReceived
 slotAfter v t b h iss events.Retransmission = v .slot
-slotAfter v t b h iss events.Completed = turned (v .slot) Established
-slotAfter v t b h iss events.WasReset = turned (v .slot) (afterReset (t + v .settings .hold) (v .slot .status))
+slotAfter v t b h iss events.Completed = withStatus (v .slot) Established
+slotAfter v t b h iss events.WasReset = withStatus (v .slot) (afterReset (t + v .settings .hold) (v .slot .status))
 slotAfter v t b h iss events.Done = v .slot
 slotAfter v t b h iss (events.Refused r) = v .slot
 
@@ -135,7 +138,7 @@ abbrev pub answerTo : View → List ℕ → Slot → Bool → ℕ → List ℕ
 answerTo v a s fresh room =
     answerBytes (ownAddress (v .home)) a (answerFrom (v .home) (v .settings .mss) s fresh) (cookieUnder (v .keys .present) (block a)) room
 
--- openings are answered
+-- openings are outcomeOf
 abbrev pub isAnswered : Event → Bool
 isAnswered (events.FastOpen n) = true
 isAnswered events.Regular = true
@@ -189,15 +192,15 @@ segmentAfter l t found (events.Refused r) s = l
 
 -- the peer's slot becomes free
 abbrev pub freed : Listener → ℕ → Peer → Listener
-freed l t p = put l t (scanFor l t p .place) (turned (view l t p .slot) Free)
+freed l t p = put l t (scanFor l t p .place) (withStatus (view l t p .slot) Free)
 
 -- settings as they are kept
 abbrev pub inForce : Settings → InForce
 inForce g = record { on = g .on; limit = g .limit; room = g .room; hold = g .hold; mss = g .mss }
 
 -- the present key becomes the previous one
-abbrev pub rotated : Keys → List ℕ → Keys
-rotated k new = record { present = keyExpansion new; previous = k .present; rotated = true }
+abbrev pub withKey : Keys → List ℕ → Keys
+withKey k new = record { present = keyExpansion new; previous = k .present; rotated = true }
 
 unfoldable pub after : Listener → Call → Listener
 after l (segment t src seg iss room) =
@@ -206,19 +209,19 @@ after l (segment t src seg iss room) =
     let e = doneEvent v (segment t src seg iss room) in
     segmentAfter l t (scanFor l t p) e (slotAfter v t (block src) (fieldsOf seg) iss e)
 after l (settings t g) = record { slots = l .slots; keys = l .keys; home = l .home; settings = inForce g; clock = t }
-after l (key t k) = record { slots = l .slots; keys = rotated (l .keys) k; home = l .home; settings = l .settings; clock = t }
+after l (key t k) = record { slots = l .slots; keys = withKey (l .keys) k; home = l .home; settings = l .settings; clock = t }
 after l (abandon t a p) = freed l t (record { address = a; port = p })
 after l (resend t a p room) = moved l t (l .slots)
 after l (close t a p) = freed l t (record { address = a; port = p })
 
 -- A call: refused, it changes nothing
 
-abbrev pub answered : Listener → Call → Check → Outcome
-answered l c Clear = record { listener = after l c; event = doneEvent (viewOf l c) c; written = length (doneOutput (viewOf l c) c) }
-answered l c (Refused r) = record { listener = l; event = events.Refused r; written = 0 }
+abbrev pub outcomeOf : Listener → Call → Check → Outcome
+outcomeOf l c Clear = record { listener = after l c; event = doneEvent (viewOf l c) c; written = length (doneOutput (viewOf l c) c) }
+outcomeOf l c (Refused r) = record { listener = l; event = events.Refused r; written = 0 }
 
 unfoldable pub step : Listener → Call → Outcome
-step l c = answered l c (judged l c)
+step l c = outcomeOf l c (judged l c)
 
 abbrev pub outputIf : View → Call → Check → List ℕ
 outputIf v c Clear = doneOutput v c

@@ -6,7 +6,6 @@ use mathlib.Core.Bool.{Bool, true, false, not, _&&_}
 use lib.Dec.{ltb, eqb}
 use lib.ListN.{replicate}
 use Rattle.listener.specs.Lists.{sameBytes, tally, firstIndex}
-use Rattle.listener.specs.Address.{Peer, block}
 use Rattle.listener.specs.declared.table.Status.{Status}
 use Rattle.listener.specs.declared.table.Status.the-variants.{Free, SynReceived, FastOpen, ResetHeld, Established}
 use Rattle.listener.specs.declared.table.Slot.{Slot}
@@ -73,23 +72,21 @@ freeSlot = record { addr = replicate 16 0; port = 0; irs = 0; iss = 0; status = 
 abbrev pub newSlot : List ℕ → ℕ → ℕ → ℕ → Status → Slot
 newSlot b port irs iss status = record { addr = b; port = port; irs = irs; iss = iss; status = status }
 
-abbrev pub turned : Slot → Status → Slot
-turned s status = record { addr = s .addr; port = s .port; irs = s .irs; iss = s .iss; status = status }
+abbrev pub withStatus : Slot → Status → Slot
+withStatus s status = record { addr = s .addr; port = s .port; irs = s .irs; iss = s .iss; status = status }
 
 -- a connection of the peer with this block and port stands in the slot at the time
-unfoldable pub holds : ℕ → List ℕ → ℕ → Slot → Bool
-holds t b port s = isLive t (s .status) && (eqb (s .port) port && sameBytes (s .addr) b)
+unfoldable pub holdsPeer : ℕ → List ℕ → ℕ → Slot → Bool
+holdsPeer t b port s = isLive t (s .status) && (eqb (s .port) port && sameBytes (s .addr) b)
 
--- the peer's place among the slots that are live at the time, and the lowest free place; the number of slots where there is none
-abbrev pub place : ℕ → Peer → List Slot → ℕ
-place t p slots = firstIndex (holds t (block (p .address)) (p .port)) slots
-
+-- the lowest free place; the number of slots where there is none
 abbrev pub freePlace : ℕ → List Slot → ℕ
 freePlace t slots = firstIndex (λ s. not (isLive t (s .status))) slots
 
 abbrev pub pendingAt : ℕ → List Slot → ℕ
 pendingAt t slots = tally (λ s. isPending t (s .status)) slots
 
--- the three in one scan of the table
+-- In one scan of the table: the place of the peer with this block and port among the slots that are live at the time, the lowest free place (the number of
+-- slots where there is none), and pending.
 abbrev pub scanOf : ℕ → List ℕ → ℕ → List Slot → Scan
-scanOf t b port slots = record { place = firstIndex (holds t b port) slots; free = freePlace t slots; pending = pendingAt t slots }
+scanOf t b port slots = record { place = firstIndex (holdsPeer t b port) slots; free = freePlace t slots; pending = pendingAt t slots }

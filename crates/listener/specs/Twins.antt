@@ -1,6 +1,6 @@
 -- The letter's worst day, in TCP's terms: two openings from one source address, with one right cookie and one initial sequence number, from two ports.
 -- Assumes nothing.
-use Prim.Native.Nat.{ℕ, _+_, _≤_, min}
+use Prim.Native.Nat.{ℕ, _+_, _≤_}
 use mathlib.Core.Path.{_≡_}
 use mathlib.Core.List.{List}
 use mathlib.Core.Bool.{true, false, not}
@@ -14,9 +14,9 @@ use Rattle.listener.specs.Address.{block}
 use Rattle.listener.specs.Cookie.{carriedBy, right}
 use Rattle.listener.specs.Table.{isLive, pendingAt}
 use Rattle.listener.specs.Call.{Call, segment, sender, acceptedPart}
-use Rattle.listener.specs.View.{isLate, known, view}
+use Rattle.listener.specs.View.{isUntimely, known, view}
 use Rattle.listener.specs.Refusals.{wireChecks}
-use Rattle.listener.specs.Step.{step}
+use Rattle.listener.specs.Step.{accepts, step}
 use Rattle.listener.specs.declared.state.Listener.{Listener}
 use Rattle.listener.specs.declared.answer.Event.the-variants as events
 
@@ -30,9 +30,9 @@ pub record Arrival : Type 0 where
 abbrev pub callOf : List ℕ → Arrival → Call
 callOf src a = segment (a .time) src (a .seg) (a .iss) (a .room)
 
--- an opening that is not refused for the clock, its address, its output, its shape, its checksum or its port
+-- an opening that no check before its kind refuses: the listener was started, and the clock, the address, the output, shape, checksum and port are right
 pub record Opens (l : Listener) (src : List ℕ) (a : Arrival) : Type 0 where
-  pub clear : refusal (wireChecks (l .home) (isLate (l .clock) (a .time)) src (a .seg) (a .room)) ≡ Clear
+  pub clear : refusal (wireChecks (l .home) (isUntimely (l .clock) (a .time)) src (a .seg) (a .room)) ≡ Clear
   pub syn : kindOf (fieldsOf (a .seg) .flags) ≡ Syn
 
 -- the listener that the first opening leaves
@@ -57,7 +57,7 @@ pub record TwoOpenings (l : Listener) (src : List ℕ) (a b : Arrival) : Type 0 
 
 -- the bytes of a payload up to the early room
 abbrev pub upToRoom : Listener → Arrival → ℕ
-upToRoom l a = min (length (payloadOf (a .seg))) (l .settings .room)
+upToRoom l a = accepts (l .settings) (a .seg)
 
 -- both are early, and both hand their data over up to the early room
 pub record BothEarly (l : Listener) (src : List ℕ) (a b : Arrival) : Type 0 where

@@ -16,8 +16,8 @@ use Rattle.listener.specs.declared.table.Slot.{Slot}
 use Rattle.listener.specs.declared.table.Scan.{Scan}
 
 -- refusal 5
-abbrev pub isLate : ℕ → ℕ → Bool
-isLate clock t = ltb t clock || ltb (2 ^ 48) t
+abbrev pub isUntimely : ℕ → ℕ → Bool
+isUntimely clock t = ltb t clock || ltb (2 ^ 48) t
 
 -- the settings in force at a time
 abbrev pub settingsAt : Listener → ℕ → InForce
@@ -32,11 +32,11 @@ abbrev pub viewFrom : Listener → ℕ → Scan → View
 viewFrom l t s =
     record {
       home = l .home;
-      late = isLate (l .clock) t;
+      untimely = isUntimely (l .clock) t;
       settings = settingsAt l t;
       keys = l .keys;
       slot = slotAt l (s .place);
-      room = ltb (s .free) 64;
+      vacant = ltb (s .free) 64;
       below = ltb (s .pending) (settingsAt l t .limit);
     }
 

@@ -1,5 +1,6 @@
-// The listener's calls and readings. Each call carries a time in ms and answers the listener next; a refused one answers the listener as it was and
-// leaves the output alone.
+// The start, the calls and the readings. Each call carries a time in ms and answers the listener next; a refused one answers the listener as it was
+// and leaves the output alone.
+use crate::action::act;
 use crate::address::Family;
 use crate::address::block_of;
 use crate::address::size_of;
@@ -14,7 +15,6 @@ use crate::checks::check_output;
 use crate::checks::check_time;
 use crate::checks::is_in_range;
 use crate::checks::receive;
-use crate::opening::act;
 use crate::state::Home;
 use crate::state::InForce;
 use crate::state::Keys;
@@ -31,7 +31,7 @@ use crate::table::accepted_with;
 use crate::table::is_established;
 use crate::table::is_waiting;
 use crate::table::scan_table;
-use crate::table::turned_to;
+use crate::table::with_status;
 use cipher::expand_key;
 use segment::header::Header;
 use segment::header::kind_of;
@@ -46,10 +46,10 @@ ghost use Rattle.segment.specs.Refusal.{refusal};
 ghost use Rattle.segment.specs.Header.{fieldsOf};
 ghost use Rattle.segment.specs.Write.{answerBytes, overwrite};
 ghost use Rattle.listener.specs.Table.{pendingAt};
-ghost use Rattle.listener.specs.View.{isLate, ownAddress};
+ghost use Rattle.listener.specs.View.{isUntimely, ownAddress};
 ghost use Rattle.listener.specs.Call.{Call};
 ghost use Rattle.listener.specs.Refusals.{wireChecks, isReleasable, releaseOf};
-ghost use Rattle.listener.specs.Step.{blank, fresh, neverStarted, startOf, segmentAfter, answerFrom, step, outputOf, pendingNumber};
+ghost use Rattle.listener.specs.Step.{blank, freshListener, neverStarted, startOf, segmentAfter, answerFrom, step, outputOf, pendingNumber};
 
 // A refused call changes nothing.
 fn refused(l: Listener, why: Refusal) -> Outcome
@@ -62,7 +62,7 @@ fn refused(l: Listener, why: Refusal) -> Outcome
     }
 }
 
-// A call that writes nothing and has no verdict is done.
+// Done, with nothing written and no verdict.
 fn done(l: Listener) -> Outcome
     ensures { λ r. ⌜ r ≡ record { listener = l; event = Event.Done; written = 0 } ⌝ }
 {
@@ -123,7 +123,7 @@ fn key_of(key: &[u8]) -> [u8; 16]
 
 fn fresh_listener(own: &[u8], port: u16, key: &[u8]) -> Listener
     requires { ⌜ (length (now own) ≤ 16) × (length (now key) ≡ 16) ⌝ }
-    ensures { λ r. ⌜ r ≡ fresh (now (own .entry)) port (now (key .entry)) ⌝ }
+    ensures { λ r. ⌜ r ≡ freshListener (now (own .entry)) port (now (key .entry)) ⌝ }
 {
     let block = block_of(own);
     let present = expand_key(key_of(key));
@@ -219,7 +219,7 @@ fn after_segment(l: Listener, time: u64, found: Scan, event: Event, s: Slot) -> 
 }
 
 // A segment that passed the checks before its kind.
-fn take_in(
+fn checked_segment(
     l: Listener,
     time: u64,
     src: &[u8],
@@ -229,7 +229,7 @@ fn take_in(
     out: &mut [u8],
 ) -> Outcome
     requires { ⌜ h ≡ fieldsOf (now seg) ⌝ }
-    requires { ⌜ refusal (wireChecks (l .home) (isLate (l .clock) time) (now src) (now seg) (length (now out))) ≡ Check.Clear ⌝ }
+    requires { ⌜ refusal (wireChecks (l .home) (isUntimely (l .clock) time) (now src) (now seg) (length (now out))) ≡ Check.Clear ⌝ }
     ensures { λ r. ⌜ r ≡ step l (Call.segment time (now (src .entry)) (now (seg .entry)) iss (length (now (out .entry)))) ⌝ }
     ensures { λ _. ⌜ now (out .exit) ≡ overwrite (outputOf l (Call.segment time (now (src .entry)) (now (seg .entry)) iss (length (now (out .entry))))) (now (out .entry)) ⌝ }
 {
@@ -263,8 +263,8 @@ fn take_in(
     }
 }
 
-// Takes a segment of any kind from a source address. `iss` is our initial number, should it open a connection; the output has room for 36 bytes,
-// whatever the kind.
+// Takes a segment of any kind from a source address. `iss` is our initial number, should it open a connection; an output of under 36 bytes is
+// refused, whatever the kind.
 pub fn segment(l: Listener, time: u64, src: &[u8], seg: &[u8], iss: u32, out: &mut [u8]) -> Outcome
     ensures { λ r. ⌜ r ≡ step l (Call.segment time (now (src .entry)) (now (seg .entry)) iss (length (now (out .entry)))) ⌝ }
     ensures { λ _. ⌜ now (out .exit) ≡ overwrite (outputOf l (Call.segment time (now (src .entry)) (now (seg .entry)) iss (length (now (out .entry))))) (now (out .entry)) ⌝ }
@@ -272,7 +272,7 @@ pub fn segment(l: Listener, time: u64, src: &[u8], seg: &[u8], iss: u32, out: &m
     let home = l.home;
     match receive(home, l.clock, time, src, seg, out.len()) {
         Received::Dropped(why) => refused(l, why),
-        Received::Read(h) => take_in(l, time, src, seg, h, iss, out),
+        Received::Read(h) => checked_segment(l, time, src, seg, h, iss, out),
     }
 }
 
@@ -342,7 +342,7 @@ fn free_named(l: Listener, time: u64, addr: &[u8], port: u16, established: bool)
             if !is_releasable(established, status) {
                 return refused(l, Refusal::NoConnection);
             }
-            done(with_slot(l, time, found.place, turned_to(slot, Status::Free)))
+            done(with_slot(l, time, found.place, with_status(slot, Status::Free)))
         }
     }
 }
@@ -399,7 +399,7 @@ pub fn resend(l: Listener, time: u64, addr: &[u8], port: u16, out: &mut [u8]) ->
     }
 }
 
-// How many slots are pending at a time.
+// How many slots are pending at the listener's clock.
 fn count_pending(l: Listener) -> u32
     ensures { λ r. ⌜ r ≡ pendingAt (l .clock) (l .slots) ⌝ }
 {

@@ -4,7 +4,7 @@ use crate::address::size_of;
 use crate::state::Home;
 use crate::state::Settings;
 use crate::state::View;
-use crate::state::is_late;
+use crate::state::is_untimely;
 use crate::table::Slot;
 use crate::table::accepted_with;
 use crate::table::is_free;
@@ -22,17 +22,17 @@ ghost use mathlib.Core.Path.{_≡_};
 ghost use mathlib.Core.List.{_++_};
 ghost use Rattle.segment.specs.Refusal.{refusal};
 ghost use Rattle.segment.specs.Header.{fieldsOf};
-ghost use Rattle.listener.specs.View.{isLate};
-ghost use Rattle.listener.specs.Refusals.{inRange, repeats, completes, resets, expected, timely, addressed, roomy, numbersChecks, kindChecks, wireChecks, received};
+ghost use Rattle.listener.specs.View.{isUntimely};
+ghost use Rattle.listener.specs.Refusals.{inRange, repeats, completes, resets, expected, timely, addressed, roomy, sequenceChecks, kindChecks, wireChecks, received};
 
 // 13 and 5.
 pub(crate) fn check_time(home: Home, clock: u64, time: u64) -> Check
-    ensures { λ r. ⌜ r ≡ refusal (timely home (isLate clock time)) ⌝ }
+    ensures { λ r. ⌜ r ≡ refusal (timely home (isUntimely clock time)) ⌝ }
 {
     if !home.started {
         return Check::Refused(Refusal::NotStarted);
     }
-    if is_late(clock, time) {
+    if is_untimely(clock, time) {
         return Check::Refused(Refusal::Time);
     }
     Check::Clear
@@ -40,7 +40,7 @@ pub(crate) fn check_time(home: Home, clock: u64, time: u64) -> Check
 
 // 13, 5 and 2.
 pub(crate) fn check_name(home: Home, clock: u64, time: u64, addr: &[u8]) -> Check
-    ensures { λ r. ⌜ r ≡ refusal (timely home (isLate clock time) ++ addressed home (now (addr .entry))) ⌝ }
+    ensures { λ r. ⌜ r ≡ refusal (timely home (isUntimely clock time) ++ addressed home (now (addr .entry))) ⌝ }
 {
     match check_time(home, clock, time) {
         Check::Refused(why) => Check::Refused(why),
@@ -57,7 +57,7 @@ pub(crate) fn check_name(home: Home, clock: u64, time: u64, addr: &[u8]) -> Chec
 
 // 13, 5, 2 and 11: the longest answer has 36 bytes.
 pub(crate) fn check_output(home: Home, clock: u64, time: u64, addr: &[u8], room: usize) -> Check
-    ensures { λ r. ⌜ r ≡ refusal (timely home (isLate clock time) ++ addressed home (now (addr .entry)) ++ roomy room) ⌝ }
+    ensures { λ r. ⌜ r ≡ refusal (timely home (isUntimely clock time) ++ addressed home (now (addr .entry)) ++ roomy room) ⌝ }
 {
     match check_name(home, clock, time, addr) {
         Check::Refused(why) => Check::Refused(why),
@@ -86,7 +86,7 @@ pub(crate) fn receive(
     seg: &[u8],
     room: usize,
 ) -> Received
-    ensures { λ r. ⌜ r ≡ received (refusal (wireChecks home (isLate clock time) (now (src .entry)) (now (seg .entry)) room)) (fieldsOf (now (seg .entry))) ⌝ }
+    ensures { λ r. ⌜ r ≡ received (refusal (wireChecks home (isUntimely clock time) (now (src .entry)) (now (seg .entry)) room)) (fieldsOf (now (seg .entry))) ⌝ }
 {
     match check_output(home, clock, time, src, room) {
         Check::Refused(why) => Received::Dropped(why),
@@ -149,7 +149,7 @@ fn check_syn(v: View, h: Header) -> Check
     let slot = v.slot;
     let status = slot.status;
     if is_free(status) {
-        if v.room {
+        if v.vacant {
             return Check::Clear;
         }
         return Check::Refused(Refusal::TableFull);
@@ -161,8 +161,8 @@ fn check_syn(v: View, h: Header) -> Check
 }
 
 // 9 and 10, where `admitted` is whether the numbers are.
-fn check_numbers(s: Slot, admitted: bool) -> Check
-    ensures { λ r. ⌜ r ≡ refusal (numbersChecks s admitted) ⌝ }
+fn check_sequence(s: Slot, admitted: bool) -> Check
+    ensures { λ r. ⌜ r ≡ refusal (sequenceChecks s admitted) ⌝ }
 {
     let status = s.status;
     if !is_waiting(status) {
@@ -181,8 +181,8 @@ pub(crate) fn check_kind(v: View, h: Header, kind: Kind) -> Check
     let slot = v.slot;
     match kind {
         Kind::Syn => check_syn(v, h),
-        Kind::Ack => check_numbers(slot, is_completion(slot, h)),
-        Kind::Rst => check_numbers(slot, is_reset(slot, h)),
+        Kind::Ack => check_sequence(slot, is_completion(slot, h)),
+        Kind::Rst => check_sequence(slot, is_reset(slot, h)),
         Kind::Other => Check::Refused(Refusal::Flags),
     }
 }

@@ -1,4 +1,4 @@
-// The Fast Open cookie: made, compared, and weighed for an opening.
+// The Fast Open cookie: made, compared, and cookieCheck for an opening.
 use crate::state::Keys;
 use cipher::encrypt;
 use segment::options::FastOpen;
@@ -6,7 +6,7 @@ use segment::options::cookie;
 ghost use mathlib.Core.Path.{_≡_};
 ghost use mathlib.Core.Bool.{true, false, _&&_, not};
 ghost use Rattle.listener.specs.Lists.{sameBytes};
-ghost use Rattle.listener.specs.Cookie.{cookieUnder, found, counts, rightUnder, right, weighed};
+ghost use Rattle.listener.specs.Cookie.{cookieUnder, found, counts, rightUnder, right, cookieCheck};
 
 // The cookie of an address, by its block, under a key's round keys.
 pub(crate) fn make_cookie(round_keys: [u8; 176], b: [u8; 16]) -> [u8; 8]
@@ -33,17 +33,17 @@ fn is_cookie(given: &[u8], cookie: [u8; 8]) -> bool
 }
 
 // What is made of an opening's Fast Open option: whether its cookie is right, and whether a fresh one is to go with the answer.
-pub(crate) struct Offer {
+pub(crate) struct OptionCheck {
     pub right: bool,
     pub fresh: bool,
     pub cookie: [u8; 8],
 }
 
 // No option that counts, or no cookies now.
-fn no_offer() -> Offer
+fn no_option() -> OptionCheck
     ensures { λ r. ⌜ (r .right ≡ false) × (r .fresh ≡ false) ⌝ }
 {
-    Offer {
+    OptionCheck {
         right: false,
         fresh: false,
         cookie: [0u8; 8],
@@ -52,20 +52,20 @@ fn no_offer() -> Offer
 
 // A cookie that was given is right under the present key, or under the previous one, and is then replaced. The previous key's block is
 // computed only where the present one's cookie did not match.
-fn weigh(keys: Keys, b: [u8; 16], given: &[u8]) -> Offer
-    ensures { λ r. ⌜ r ≡ weighed keys b (now (given .entry)) ⌝ }
+fn check_cookie(keys: Keys, b: [u8; 16], given: &[u8]) -> OptionCheck
+    ensures { λ r. ⌜ r ≡ cookieCheck keys b (now (given .entry)) ⌝ }
 {
     let present = keys.present;
     let fresh = make_cookie(present, b);
     if is_cookie(given, fresh) {
-        return Offer {
+        return OptionCheck {
             right: true,
             fresh: false,
             cookie: fresh,
         };
     }
     if !keys.rotated {
-        return Offer {
+        return OptionCheck {
             right: false,
             fresh: true,
             cookie: fresh,
@@ -73,7 +73,7 @@ fn weigh(keys: Keys, b: [u8; 16], given: &[u8]) -> Offer
     }
     let previous = keys.previous;
     let old = make_cookie(previous, b);
-    Offer {
+    OptionCheck {
         right: is_cookie(given, old),
         fresh: true,
         cookie: fresh,
@@ -81,24 +81,34 @@ fn weigh(keys: Keys, b: [u8; 16], given: &[u8]) -> Offer
 }
 
 // What is made of the option that was found in an area. Where cookies do not run, nothing is computed.
-pub(crate) fn consider(run: bool, keys: Keys, b: [u8; 16], area: &[u8], fast: FastOpen) -> Offer
+pub(crate) fn check_option(
+    run: bool,
+    keys: Keys,
+    b: [u8; 16],
+    area: &[u8],
+    fast: FastOpen,
+) -> OptionCheck
     ensures { λ r. ⌜ r .right ≡ run && right keys b (found fast (now (area .entry))) ⌝ }
     ensures { λ r. ⌜ r .fresh ≡ run && (counts (found fast (now (area .entry))) && not (rightUnder (keys .present) b (found fast (now (area .entry))))) ⌝ }
     ensures { λ r. ⌜ (r .fresh ≡ true → r .cookie ≡ cookieUnder (keys .present) b) ⌝ }
 {
     if !run {
-        return no_offer();
+        return no_option();
     }
     match fast {
-        FastOpen::Absent => no_offer(),
+        FastOpen::Absent => no_option(),
         FastOpen::Request => {
             let present = keys.present;
-            Offer {
+            OptionCheck {
                 right: false,
                 fresh: true,
                 cookie: make_cookie(present, b),
             }
         }
-        FastOpen::Cookie { at, len } => weigh(keys, b, cookie(area, FastOpen::Cookie { at, len })),
+        FastOpen::Cookie { at, len } => check_cookie(
+            keys,
+            b,
+            cookie(area, FastOpen::Cookie { at, len }),
+        ),
     }
 }

@@ -5,7 +5,7 @@ use crate::table::Slot;
 use crate::table::Status;
 ghost use mathlib.Core.Path.{_≡_};
 ghost use Rattle.listener.specs.Table.{freeSlot};
-ghost use Rattle.listener.specs.View.{isLate, slotAt, viewFrom};
+ghost use Rattle.listener.specs.View.{isUntimely, slotAt, viewFrom};
 ghost use Rattle.listener.specs.Step.{put, moved};
 
 // What a settings call asks for. `room` is document 01's early room, in bytes; `hold` is in ms.
@@ -51,16 +51,16 @@ pub struct Listener {
 
 // The listener as a call sees it, at its time and for its peer: what the call's answer depends on.
 pub struct View {
-    // Whether it was started, and its own address and port.
+    // Whether it was started, and its own family, address and port.
     pub home: Home,
     // The time is before the last accepted one, or above 2^48.
-    pub late: bool,
+    pub untimely: bool,
     pub settings: InForce,
     pub keys: Keys,
     // The peer's slot that is live at the time, or the free slot.
     pub slot: Slot,
     // Whether any slot is free.
-    pub room: bool,
+    pub vacant: bool,
     // Whether pending is below the limit.
     pub below: bool,
 }
@@ -87,8 +87,8 @@ fn slot_at(l: Listener, i: usize) -> Slot
     free_slot()
 }
 
-pub(crate) fn is_late(clock: u64, time: u64) -> bool
-    ensures { λ r. ⌜ r ≡ isLate clock time ⌝ }
+pub(crate) fn is_untimely(clock: u64, time: u64) -> bool
+    ensures { λ r. ⌜ r ≡ isUntimely clock time ⌝ }
 {
     if time < clock {
         return true;
@@ -105,11 +105,11 @@ pub(crate) fn view_of(l: Listener, time: u64, s: Scan) -> View
     let settings = l.settings;
     View {
         home,
-        late: is_late(l.clock, time),
+        untimely: is_untimely(l.clock, time),
         settings,
         keys,
         slot: slot_at(l, s.place),
-        room: s.free < 64,
+        vacant: s.free < 64,
         below: s.pending < settings.limit,
     }
 }

@@ -5,7 +5,7 @@ ghost use mathlib.Core.Bool.{_&&_};
 ghost use Prim.Native.Nat.{_<_};
 ghost use lib.Dec.{eqb};
 ghost use Rattle.listener.specs.Lists.{sameBytes};
-ghost use Rattle.listener.specs.Table.{isLive, isPending, isWaiting, isEstablished, isFree, acceptedWith, afterReset, turned, holds, scanOf};
+ghost use Rattle.listener.specs.Table.{isLive, isPending, isWaiting, isEstablished, isFree, acceptedWith, afterReset, withStatus, holdsPeer, scanOf};
 ghost use Rattle.listener.specs.Scan.{earliest, counted, seenWith};
 
 // Document 01's free, plain, early with its accepted count, held until a time, and open.
@@ -120,8 +120,8 @@ pub(crate) fn after_reset(end: u64, s: Status) -> Status
 }
 
 // The slot with another status.
-pub(crate) fn turned_to(s: Slot, status: Status) -> Slot
-    ensures { λ r. ⌜ r ≡ turned s status ⌝ }
+pub(crate) fn with_status(s: Slot, status: Status) -> Slot
+    ensures { λ r. ⌜ r ≡ withStatus s status ⌝ }
 {
     let addr = s.addr;
     Slot {
@@ -148,7 +148,7 @@ fn same_name(p: u16, q: u16, a: [u8; 16], b: [u8; 16]) -> bool
 
 // Whether the slot holds a connection of this name at the time.
 fn is_named(time: u64, b: [u8; 16], port: u16, s: Slot) -> bool
-    ensures { λ r. ⌜ r ≡ holds time b port s ⌝ }
+    ensures { λ r. ⌜ r ≡ holdsPeer time b port s ⌝ }
 {
     let status = s.status;
     if !is_live(time, status) {

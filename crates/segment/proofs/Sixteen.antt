@@ -8,13 +8,11 @@ use borrow.Author.Tests.{le-leb}
 use lib.ListN.{length}
 use Rattle.segment.specs.Bytes.{word}
 use Rattle.segment.specs.Sequence.{nextAfter, difference, inWindow}
-use Rattle.segment.specs.Options.{nothing, mssOption, isCookieLength, cookieAt, fastOpenOption, withOption, readFrom, readOptions, cookieBytes}
+use Rattle.segment.specs.Options.{nothing, mssOption, isCookieLength, cookieAt, fastOpenOption, withOption, readFrom, readOptions}
+use Rattle.segment.specs.Found.{onlyFastOpen, onlyMss, FoundCookie, EarlierStands}
 use Rattle.segment.specs.Checksum.{onesAdd, onesSum, pseudoHeader, segmentSum}
 use Rattle.segment.specs.Write.{optionBytes, headerBytes, segmentWith, segmentBytes, optionAllowed, canWrite, written, answerBytes}
-use Rattle.segment.specs.declared.options.Mss.the-variants.{NotGiven, Given}
-use Rattle.segment.specs.declared.options.FastOpen.{FastOpen}
-use Rattle.segment.specs.declared.options.FastOpen.the-variants.{Absent, Request, Cookie}
-use Rattle.segment.specs.declared.options.Options.{Options}
+use Rattle.segment.specs.declared.options.FastOpen.the-variants.{Request}
 
 -- 1, 2: acknowledgements
 pub row1 : nextAfter 4294967295 0 ≡ 0
@@ -38,27 +36,19 @@ pub row5 : inWindow 5 4 ≡ false
 unfolding inWindow difference
 row5 = refl
 
--- nothing but a Fast Open option
-abbrev pub only : FastOpen → Options
-only f = record { mss = NotGiven; fast = f }
-
 -- 6: a request
-pub row6 : readOptions (34 ∷ 2 ∷ []) ≡ only Request
+pub row6 : readOptions (34 ∷ 2 ∷ []) ≡ onlyFastOpen Request
 unfolding readOptions readFrom withOption mssOption fastOpenOption cookieAt isCookieLength
 row6 = refl
 
 -- 7, 8: skipped. Nothing is found, and a request that follows is.
-pub row7 : (readOptions (34 ∷ 3 ∷ 0 ∷ []) ≡ nothing) × (readOptions (34 ∷ 3 ∷ 0 ∷ 34 ∷ 2 ∷ []) ≡ only Request)
+pub row7 : (readOptions (34 ∷ 3 ∷ 0 ∷ []) ≡ nothing) × (readOptions (34 ∷ 3 ∷ 0 ∷ 34 ∷ 2 ∷ []) ≡ onlyFastOpen Request)
 unfolding readOptions readFrom withOption mssOption fastOpenOption cookieAt isCookieLength
 row7 = (refl, refl)
 
-pub row8 : (readOptions (34 ∷ 4 ∷ 1 ∷ 2 ∷ []) ≡ nothing) × (readOptions (34 ∷ 4 ∷ 1 ∷ 2 ∷ 34 ∷ 2 ∷ []) ≡ only Request)
+pub row8 : (readOptions (34 ∷ 4 ∷ 1 ∷ 2 ∷ []) ≡ nothing) × (readOptions (34 ∷ 4 ∷ 1 ∷ 2 ∷ 34 ∷ 2 ∷ []) ≡ onlyFastOpen Request)
 unfolding readOptions readFrom withOption mssOption fastOpenOption cookieAt isCookieLength
 row8 = (refl, refl)
-
--- an area in which just a cookie of these bytes is found, at byte 2
-abbrev pub FoundCookie : List ℕ → List ℕ → Type 0
-FoundCookie cookie area = (readOptions area ≡ only (Cookie 2 (length cookie))) × (cookieBytes (readOptions area .fast) area ≡ cookie)
 
 -- 9, 10: the shortest cookie and the longest, whatever their bytes
 pub row9 : (a b c d : ℕ) → FoundCookie (a ∷ b ∷ c ∷ d ∷ []) (34 ∷ 6 ∷ a ∷ b ∷ c ∷ d ∷ [])
@@ -71,21 +61,13 @@ pub row10 : (a b c d e f g h i j k l m n o p : ℕ)
 unfolding readOptions readFrom withOption mssOption fastOpenOption cookieAt isCookieLength
 row10 a b c d e f g h i j k l m n o p = (refl, refl)
 
--- nothing but an MSS
-abbrev pub given : ℕ → Options
-given mss = record { mss = Given mss; fast = Absent }
-
--- an MSS option before these bytes, and nothing of them found
-abbrev pub EarlierStands : List ℕ → Type 0
-EarlierStands bytes = (a b : ℕ) → readOptions (2 ∷ 4 ∷ a ∷ b ∷ bytes) ≡ given (word a b)
-
 -- 11: reading ends, whatever follows, and what was found before stands
 pub row11 : (rest : List ℕ) → (readOptions (34 ∷ 0 ∷ rest) ≡ nothing) × EarlierStands (34 ∷ 0 ∷ rest)
 unfolding readOptions readFrom withOption mssOption fastOpenOption cookieAt isCookieLength
 row11 rest = (refl, earlier)
   where
     earlier : EarlierStands (34 ∷ 0 ∷ rest)
-    earlier a b = ap (λ (fits : Bool). cond fits (given (word a b)) nothing) (le-leb 4 (suc (suc (suc (suc (suc (length rest))))) + 1) (omega arith))
+    earlier a b = ap (λ (fits : Bool). cond fits (onlyMss (word a b)) nothing) (le-leb 4 (suc (suc (suc (suc (suc (length rest))))) + 1) (omega arith))
 
 -- 12: reading ends at the last byte, and what was found before stands
 pub row12 : (readOptions (34 ∷ []) ≡ nothing) × EarlierStands (34 ∷ [])

@@ -4,6 +4,7 @@ pub mod Refusal
 pub mod Bytes
 pub mod Header
 pub mod Options
+pub mod Found
 pub mod Checksum
 pub mod Sequence
 pub mod Write

@@ -1,12 +1,7 @@
 -- `listener::answer::accepted_part` meets its contract: a part of the payload, or none.
 -- Assumes nothing.
-use Prim.Native.Nat.{ℕ}
-use mathlib.Core.Path.{sym, _∙_}
-use native.Mathlib.Omega.{arith}
-use lib.ListN.{take}
+use mathlib.Core.Path.{sym}
 use lib.Seq.{length-take-le}
-use borrow.Author.Tests.{lt-ltb, le-ltb}
-use Rattle.listener.specs.Call.{acceptedPart}
 use Rattle.listener.proofs.Parts.{none-taken, taken}
 use borrow.Author.Needs.{needs}
 use Rattle.listener.proofs.answer.accepted_part.Statement.{statement}

@@ -1,6 +1,5 @@
 -- `listener::calls::count_pending` meets its contract: by the scan.
 -- Assumes nothing.
-use Prim.Native.Nat.{ℕ}
 use mathlib.Core.Path.{ap}
 use Rattle.listener.specs.declared.table.Scan.{Scan}
 use borrow.Author.Needs.{needs}

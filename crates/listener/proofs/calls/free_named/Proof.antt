@@ -2,7 +2,7 @@
 -- Assumes nothing.
 use mathlib.Core.Path.{sym, _∙_}
 use borrow.Author.Tests.{not-true, not-false}
-use Rattle.listener.specs.View.{isLate}
+use Rattle.listener.specs.View.{isUntimely}
 use Rattle.listener.proofs.Calling.{release-stopped, release-none, release-done, view-is, freed-is, named-short}
 use borrow.Author.Needs.{needs}
 use Rattle.listener.proofs.calls.free_named.Statement.{statement}
@@ -23,7 +23,7 @@ enum-told c = search needs
 block-of-requires : tie.Need-block-of-requires
 block-of-requires c κs =
     let a = c .before .before .before .before .before .args in
-    named-short (a .l .home) (isLate (a .l .clock) (a .time)) (a .addr .now) (sym (c .before .before .check-name .ensures) ∙ c .enum-told .given .1)
+    named-short (a .l .home) (isUntimely (a .l .clock) (a .time)) (a .addr .now) (sym (c .before .before .check-name .ensures) ∙ c .enum-told .given .1)
 
 scan-table-requires : tie.Need-scan-table-requires
 scan-table-requires c κs = search needs
@@ -44,8 +44,8 @@ returns c =
     c .refused2 .ensures ∙ sym (release-none (a .l) (a .time) (a .addr .now) (a .port) (a .established) (sym (c .before .before .before .before .before .before .before .before .before .check-name .ensures) ∙ c .before .before .before .before .before .before .before .enum-told .given .1)
     (sym (rw v at (c .before .before .is-releasable .ensures)) ∙ not-true _ (c .before .if1 .taken)))
 
-turned-to-requires : tie.Need-turned-to-requires
-turned-to-requires c κs = search needs
+with-status-requires : tie.Need-with-status-requires
+with-status-requires c κs = search needs
 
 with-slot-requires : tie.Need-with-slot-requires
 with-slot-requires c κs = search needs
@@ -62,7 +62,7 @@ returns-3 : tie.Need-returns-3
 returns-3 c =
     let a = c .before .before .before .before .before .before .before .before .before .before .before .before .before .before .args in
     let v = view-is (a .l) (a .time) (a .addr .now) (a .port) (c .before .before .before .before .before .before .before .before .block-of .ensures) (c .before .before .before .before .before .before .before .scan-table .ensures) (c .before .before .before .before .before .before .view-of .ensures) in
-    let n = freed-is (a .l) (a .time) (a .addr .now) (a .port) (c .before .before .before .before .before .before .before .before .block-of .ensures) (c .before .before .before .before .before .before .before .scan-table .ensures) (c .before .before .before .before .before .before .view-of .ensures) (c .before .before .turned-to .ensures) (c .before .with-slot .ensures) in
+    let n = freed-is (a .l) (a .time) (a .addr .now) (a .port) (c .before .before .before .before .before .before .before .before .block-of .ensures) (c .before .before .before .before .before .before .before .scan-table .ensures) (c .before .before .before .before .before .before .view-of .ensures) (c .before .before .with-status .ensures) (c .before .with-slot .ensures) in
     rw n at (c .done .ensures) ∙ sym (release-done (a .l) (a .time) (a .addr .now) (a .port) (a .established) (sym (c .before .before .before .before .before .before .before .before .before .before .before .check-name .ensures) ∙ c .before .before .before .before .before .before .before .before .before .enum-told .given .1)
     (sym (rw v at (c .before .before .before .before .is-releasable .ensures)) ∙ not-false _ (c .before .before .before .if1 .left)))
 
@@ -80,7 +80,7 @@ free-named-spec =
     is-releasable-requires
     refused-requires-2
     returns
-    turned-to-requires
+    with-status-requires
     with-slot-requires
     done-requires
     returns-2

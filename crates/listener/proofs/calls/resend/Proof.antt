@@ -1,17 +1,11 @@
 -- `listener::calls::resend` meets its contract: by the checks.
 -- Assumes nothing.
 use lib.ListN.{replicate}
-use Prim.Native.Nat.{ℕ}
-use mathlib.Core.Path.{_≡_, sym, ap, _∙_}
-use mathlib.Core.List.{List}
-use mathlib.Core.Bool.{false, false≢true}
+use mathlib.Core.Path.{sym, _∙_}
 use lib.ListN.{length}
 use borrow.Author.Tests.{not-true, not-false}
-use Rattle.segment.specs.Write.{overwrite}
-use Rattle.listener.specs.Cookie.{cookieUnder}
-use Rattle.listener.specs.Address.{block}
-use Rattle.listener.specs.View.{isLate, ownAddress, view}
-use Rattle.listener.proofs.Calling.{resend-stopped, resend-none, resend-done, view-is, any-cookie, roomy-short, unwritten, resent}
+use Rattle.listener.specs.View.{isUntimely}
+use Rattle.listener.proofs.Calling.{resend-stopped, resend-none, resend-done, view-is, roomy-short, unwritten, resent}
 use borrow.Author.Needs.{needs}
 use Rattle.listener.proofs.calls.resend.Statement.{statement}
 use Rattle.listener.proofs.calls.resend.Tie as tie
@@ -31,7 +25,7 @@ enum-told c = search needs
 block-of-requires : tie.Need-block-of-requires
 block-of-requires c κs =
     let a = c .before .before .before .before .before .before .args in
-    roomy-short (a .l .home) (isLate (a .l .clock) (a .time)) (a .addr .now) (length (a .out .now)) (sym (c .before .before .check-output .ensures) ∙ c .enum-told .given .1)
+    roomy-short (a .l .home) (isUntimely (a .l .clock) (a .time)) (a .addr .now) (length (a .out .now)) (sym (c .before .before .check-output .ensures) ∙ c .enum-told .given .1)
 
 scan-table-requires : tie.Need-scan-table-requires
 scan-table-requires c κs = search needs

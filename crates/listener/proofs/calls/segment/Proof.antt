@@ -2,8 +2,6 @@
 -- Assumes nothing.
 use mathlib.Core.Path.{sym, _∙_}
 use lib.ListN.{length}
-use Rattle.segment.specs.Header.{fieldsOf}
-use Rattle.listener.specs.View.{isLate}
 use Rattle.listener.proofs.Calling.{segment-stopped, was-dropped, was-read, unwritten}
 use borrow.Author.Needs.{needs}
 use Rattle.listener.proofs.calls.segment.Statement.{statement}
@@ -21,8 +19,8 @@ refused-requires c κs = search needs
 enum-known-h : tie.Need-enum-known-h
 enum-known-h c = search needs
 
-take-in-requires : tie.Need-take-in-requires
-take-in-requires c κs =
+checked-segment-requires : tie.Need-checked-segment-requires
+checked-segment-requires c κs =
     let e = was-read _ _ (sym (c .before .before .before .before .receive .ensures) ∙ c .before .before .h .given .1) in
     (e .1, e .0)
 
@@ -46,7 +44,7 @@ segment-spec =
     enum-known-why
     refused-requires
     enum-known-h
-    take-in-requires
+    checked-segment-requires
     returns
     same-length
     returns-2)

@@ -1,11 +1,10 @@
 -- `listener::calls::start` meets its contract: by the checks.
 -- Assumes nothing.
-use mathlib.Core.Path.{_≡_, ap, _∙_}
+use mathlib.Core.Path.{ap, _∙_}
 use mathlib.Core.Logic.{⊎-elim}
 use native.Mathlib.Omega.{arith}
 use Rattle.segment.specs.declared.refusal.Check.the-variants.{Clear}
 use Rattle.listener.specs.declared.state.Listener.{Listener}
-use Rattle.listener.specs.declared.answer.Started.{Started}
 use Rattle.listener.proofs.Parts.{own-four, own-sixteen, start-address, start-key, start-done}
 use borrow.Author.Needs.{needs}
 use Rattle.listener.proofs.calls.start.Statement.{statement}

@@ -1,6 +1,5 @@
 -- `listener::checks::check_kind` meets its contract: by the kind.
 -- Assumes nothing.
-use mathlib.Core.Path.{sym}
 use borrow.Author.Needs.{needs}
 use Rattle.listener.proofs.checks.check_kind.Statement.{statement}
 use Rattle.listener.proofs.checks.check_kind.Tie as tie
@@ -17,8 +16,8 @@ enum-told-2 c = search needs
 is-completion-requires : tie.Need-is-completion-requires
 is-completion-requires c κs = search needs
 
-check-numbers-requires : tie.Need-check-numbers-requires
-check-numbers-requires c κs = search needs
+check-sequence-requires : tie.Need-check-sequence-requires
+check-sequence-requires c κs = search needs
 
 enum-told-3 : tie.Need-enum-told-3
 enum-told-3 c = search needs
@@ -26,8 +25,8 @@ enum-told-3 c = search needs
 is-reset-requires : tie.Need-is-reset-requires
 is-reset-requires c κs = search needs
 
-check-numbers-requires-2 : tie.Need-check-numbers-requires-2
-check-numbers-requires-2 c κs = search needs
+check-sequence-requires-2 : tie.Need-check-sequence-requires-2
+check-sequence-requires-2 c κs = search needs
 
 enum-told-4 : tie.Need-enum-told-4
 enum-told-4 c = search needs
@@ -36,10 +35,10 @@ returns : tie.Need-returns
 returns c = simp (c .before .enum-told .given .1) (c .check-syn .ensures)
 
 returns-2 : tie.Need-returns-2
-returns-2 c = simp (c .before .before .enum-told2 .given .1) (rw (c .before .is-completion .ensures) at (c .check-numbers .ensures))
+returns-2 c = simp (c .before .before .enum-told2 .given .1) (rw (c .before .is-completion .ensures) at (c .check-sequence .ensures))
 
 returns-3 : tie.Need-returns-3
-returns-3 c = simp (c .before .before .enum-told3 .given .1) (rw (c .before .is-reset .ensures) at (c .check-numbers2 .ensures))
+returns-3 c = simp (c .before .before .enum-told3 .given .1) (rw (c .before .is-reset .ensures) at (c .check-sequence2 .ensures))
 
 returns-4 : tie.Need-returns-4
 returns-4 c = simp (c .enum-told4 .given .1)
@@ -52,10 +51,10 @@ check-kind-spec =
     check-syn-requires
     enum-told-2
     is-completion-requires
-    check-numbers-requires
+    check-sequence-requires
     enum-told-3
     is-reset-requires
-    check-numbers-requires-2
+    check-sequence-requires-2
     enum-told-4
     returns
     returns-2

@@ -2,7 +2,7 @@
 -- Assumes nothing.
 use mathlib.Core.Path.{sym, _∙_}
 use Rattle.listener.proofs.Judging.{name-stopped, name-right, name-wrong}
-use Rattle.listener.specs.View.{isLate}
+use Rattle.listener.specs.View.{isUntimely}
 use borrow.Author.Needs.{needs}
 use Rattle.listener.proofs.checks.check_name.Statement.{statement}
 use Rattle.listener.proofs.checks.check_name.Tie as tie
@@ -22,17 +22,17 @@ is-address-requires c κs = search needs
 returns : tie.Need-returns
 returns c =
     let a = c .before .before .before .before .before .args in
-    sym (name-stopped (a .home) (isLate (a .clock) (a .time)) (a .addr .now) (sym (c .before .before .before .check-time .ensures) ∙ c .before .why .given .1))
+    sym (name-stopped (a .home) (isUntimely (a .clock) (a .time)) (a .addr .now) (sym (c .before .before .before .check-time .ensures) ∙ c .before .why .given .1))
 
 returns-2 : tie.Need-returns-2
 returns-2 c =
     let a = c .before .before .before .before .before .before .args in
-    sym (name-right (a .home) (isLate (a .clock) (a .time)) (a .addr .now) (sym (c .before .before .before .before .check-time .ensures) ∙ c .before .before .enum-told .given .1) (c .before .is-address .ensures) (c .if1 .taken))
+    sym (name-right (a .home) (isUntimely (a .clock) (a .time)) (a .addr .now) (sym (c .before .before .before .before .check-time .ensures) ∙ c .before .before .enum-told .given .1) (c .before .is-address .ensures) (c .if1 .taken))
 
 returns-3 : tie.Need-returns-3
 returns-3 c =
     let a = c .before .before .before .before .before .before .args in
-    sym (name-wrong (a .home) (isLate (a .clock) (a .time)) (a .addr .now) (sym (c .before .before .before .before .check-time .ensures) ∙ c .before .before .enum-told .given .1) (c .before .is-address .ensures) (c .if1 .left))
+    sym (name-wrong (a .home) (isUntimely (a .clock) (a .time)) (a .addr .now) (sym (c .before .before .before .before .check-time .ensures) ∙ c .before .before .enum-told .given .1) (c .before .is-address .ensures) (c .if1 .left))
 
 pub check-name-spec : {M : Type 1} → statement M
 check-name-spec =

@@ -2,7 +2,7 @@
 -- Assumes nothing.
 use mathlib.Core.Path.{sym, _∙_}
 use Rattle.listener.proofs.Judging.{output-stopped, output-enough, output-short}
-use Rattle.listener.specs.View.{isLate}
+use Rattle.listener.specs.View.{isUntimely}
 use borrow.Author.Needs.{needs}
 use Rattle.listener.proofs.checks.check_output.Statement.{statement}
 use Rattle.listener.proofs.checks.check_output.Tie as tie
@@ -19,17 +19,17 @@ enum-told c = search needs
 returns : tie.Need-returns
 returns c =
     let a = c .before .before .before .before .before .args in
-    sym (output-stopped (a .home) (isLate (a .clock) (a .time)) (a .addr .now) (a .room) (sym (c .before .before .before .check-name .ensures) ∙ c .before .why .given .1))
+    sym (output-stopped (a .home) (isUntimely (a .clock) (a .time)) (a .addr .now) (a .room) (sym (c .before .before .before .check-name .ensures) ∙ c .before .why .given .1))
 
 returns-2 : tie.Need-returns-2
 returns-2 c =
     let a = c .before .before .before .before .before .args in
-    sym (output-short (a .home) (isLate (a .clock) (a .time)) (a .addr .now) (a .room) (sym (c .before .before .before .check-name .ensures) ∙ c .before .enum-told .given .1) (c .if1 .taken))
+    sym (output-short (a .home) (isUntimely (a .clock) (a .time)) (a .addr .now) (a .room) (sym (c .before .before .before .check-name .ensures) ∙ c .before .enum-told .given .1) (c .if1 .taken))
 
 returns-3 : tie.Need-returns-3
 returns-3 c =
     let a = c .before .before .before .before .before .args in
-    sym (output-enough (a .home) (isLate (a .clock) (a .time)) (a .addr .now) (a .room) (sym (c .before .before .before .check-name .ensures) ∙ c .before .enum-told .given .1) (c .if1 .left))
+    sym (output-enough (a .home) (isUntimely (a .clock) (a .time)) (a .addr .now) (a .room) (sym (c .before .before .before .check-name .ensures) ∙ c .before .enum-told .given .1) (c .if1 .left))
 
 pub check-output-spec : {M : Type 1} → statement M
 check-output-spec =

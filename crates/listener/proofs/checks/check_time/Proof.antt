@@ -8,14 +8,14 @@ use Rattle.listener.proofs.checks.check_time.Tie as tie
 returns : tie.Need-returns
 returns c = simp (c .if1 .taken)
 
-is-late-requires : tie.Need-is-late-requires
-is-late-requires c κs = search needs
+is-untimely-requires : tie.Need-is-untimely-requires
+is-untimely-requires c κs = search needs
 
 returns-2 : tie.Need-returns-2
-returns-2 c = simp (c .before .before .if1 .left, sym (c .before .is-late .ensures) ∙ c .if2 .taken)
+returns-2 c = simp (c .before .before .if1 .left, sym (c .before .is-untimely .ensures) ∙ c .if2 .taken)
 
 returns-3 : tie.Need-returns-3
-returns-3 c = simp (c .before .before .if1 .left, sym (c .before .is-late .ensures) ∙ c .if2 .left)
+returns-3 c = simp (c .before .before .if1 .left, sym (c .before .is-untimely .ensures) ∙ c .if2 .left)
 
 pub check-time-spec : {M : Type 1} → statement M
-check-time-spec = tie.close (tie.spec returns is-late-requires returns-2 returns-3)
+check-time-spec = tie.close (tie.spec returns is-untimely-requires returns-2 returns-3)

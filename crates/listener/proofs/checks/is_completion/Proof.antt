@@ -1,10 +1,6 @@
 -- `listener::checks::is_completion` meets its contract: the window, then the acknowledgement.
 -- Assumes nothing.
-use mathlib.Core.Path.{sym, ap, _∙_}
-use Prim.Native.Nat.{ℕ}
 use borrow.Author.Tests.{not-true, not-false}
-use lib.Dec.{eqb}
-use Rattle.segment.specs.Sequence.{inWindow}
 use Rattle.listener.proofs.Parts.{not-completed, completed}
 use borrow.Author.Needs.{needs}
 use Rattle.listener.proofs.checks.is_completion.Statement.{statement}

@@ -1,11 +1,8 @@
 -- `listener::checks::receive` meets its contract: the checks before, then shape, checksum and port.
 -- Assumes nothing.
-use Rattle.listener.specs.View.{isLate}
-use Prim.Native.Nat.{_≤_}
-use mathlib.Core.Path.{_≡_, sym, _∙_}
-use native.Mathlib.Omega.{arith}
-use borrow.Author.Tests.{not-true, not-false, eq-eqb, ne-eqb}
-use Rattle.segment.proofs.Formed.{ill-shaped, well-shaped}
+use Rattle.listener.specs.View.{isUntimely}
+use mathlib.Core.Path.{sym, _∙_}
+use borrow.Author.Tests.{not-true, not-false}
 use Rattle.listener.proofs.Receiving.{own-most, own-part, dropped-before, dropped-shape, dropped-sum, dropped-port, read}
 use borrow.Author.Needs.{needs}
 use Rattle.listener.proofs.checks.receive.Statement.{statement}
@@ -48,30 +45,30 @@ is-checksum-right-requires c κs = search needs
 returns : tie.Need-returns
 returns c =
     let a = c .before .before .before .before .before .before .before .before .before .before .before .before .before .before .args in
-    dropped-sum (a .home) (isLate (a .clock) (a .time)) (a .src .now) (a .seg .now) (a .room) (sym (c .before .before .before .before .before .before .before .before .before .before .before .check-output .ensures) ∙ c .before .before .before .before .before .before .before .before .before .enum-told .given .1)
+    dropped-sum (a .home) (isUntimely (a .clock) (a .time)) (a .src .now) (a .seg .now) (a .room) (sym (c .before .before .before .before .before .before .before .before .before .before .before .check-output .ensures) ∙ c .before .before .before .before .before .before .before .before .before .enum-told .given .1)
     (sym (c .before .before .before .before .before .before .before .before .read-header .ensures) ∙ c .before .before .before .before .before .before .h .given .1) (c .before .before .before .size-of .ensures) (c .before .is-checksum-right .ensures) (not-true _ (c .if1 .taken))
 
 returns-2 : tie.Need-returns-2
 returns-2 c =
     let a = c .before .before .before .before .before .before .before .before .before .before .before .before .before .before .before .before .before .args in
-    dropped-port (a .home) (isLate (a .clock) (a .time)) (a .src .now) (a .seg .now) (a .room) (sym (c .before .before .before .before .before .before .before .before .before .before .before .before .before .before .check-output .ensures) ∙ c .before .before .before .before .before .before .before .before .before .before .before .before .enum-told .given .1)
+    dropped-port (a .home) (isUntimely (a .clock) (a .time)) (a .src .now) (a .seg .now) (a .room) (sym (c .before .before .before .before .before .before .before .before .before .before .before .before .before .before .check-output .ensures) ∙ c .before .before .before .before .before .before .before .before .before .before .before .before .enum-told .given .1)
     (sym (c .before .before .before .before .before .before .before .before .before .before .before .read-header .ensures) ∙ c .before .before .before .before .before .before .before .before .before .h .given .1) (c .before .before .before .before .before .before .size-of .ensures) (c .before .before .before .before .is-checksum-right .ensures) (not-false _ (c .before .before .before .if1 .left)) (c .if2 .taken)
 
 returns-3 : tie.Need-returns-3
 returns-3 c =
     let a = c .before .before .before .before .before .before .args in
-    dropped-before (a .home) (isLate (a .clock) (a .time)) (a .src .now) (a .seg .now) (a .room) (sym (c .before .before .before .check-output .ensures) ∙ c .before .why .given .1)
+    dropped-before (a .home) (isUntimely (a .clock) (a .time)) (a .src .now) (a .seg .now) (a .room) (sym (c .before .before .before .check-output .ensures) ∙ c .before .why .given .1)
 
 returns-4 : tie.Need-returns-4
 returns-4 c =
     let a = c .before .before .before .before .before .before .before .before .args in
-    dropped-shape (a .home) (isLate (a .clock) (a .time)) (a .src .now) (a .seg .now) (a .room) (sym (c .before .before .before .before .before .check-output .ensures) ∙ c .before .before .before .enum-told .given .1)
+    dropped-shape (a .home) (isUntimely (a .clock) (a .time)) (a .src .now) (a .seg .now) (a .room) (sym (c .before .before .before .before .before .check-output .ensures) ∙ c .before .before .before .enum-told .given .1)
     (sym (c .before .before .read-header .ensures) ∙ c .enum-told2 .given .1)
 
 returns-5 : tie.Need-returns-5
 returns-5 c =
     let a = c .before .before .before .before .before .before .before .before .before .before .before .before .before .before .before .before .before .args in
-    read (a .home) (isLate (a .clock) (a .time)) (a .src .now) (a .seg .now) (a .room) (sym (c .before .before .before .before .before .before .before .before .before .before .before .before .before .before .check-output .ensures) ∙ c .before .before .before .before .before .before .before .before .before .before .before .before .enum-told .given .1)
+    read (a .home) (isUntimely (a .clock) (a .time)) (a .src .now) (a .seg .now) (a .room) (sym (c .before .before .before .before .before .before .before .before .before .before .before .before .before .before .check-output .ensures) ∙ c .before .before .before .before .before .before .before .before .before .before .before .before .enum-told .given .1)
     (sym (c .before .before .before .before .before .before .before .before .before .before .before .read-header .ensures) ∙ c .before .before .before .before .before .before .before .before .before .h .given .1) (c .before .before .before .before .before .before .size-of .ensures) (c .before .before .before .before .is-checksum-right .ensures) (not-false _ (c .before .before .before .if1 .left)) (c .if2 .left)
 
 pub receive-spec : {M : Type 1} → statement M

@@ -1,6 +1,5 @@
 -- `listener::cookie::make_cookie` meets its contract: the first eight bytes of the block.
 -- Assumes nothing.
-use mathlib.Core.Path.{_≡_}
 use Rattle.listener.specs.Cookie.{cookieUnder}
 use Rattle.listener.proofs.Blocks.{first-eight}
 use borrow.Author.Needs.{needs}

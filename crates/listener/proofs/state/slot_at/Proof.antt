@@ -1,6 +1,5 @@
 -- `listener::state::slot_at` meets its contract: in the table, or past it.
 -- Assumes nothing.
-use Prim.Native.Nat.{_≤_, _<_}
 use mathlib.Core.Path.{_≡_, sym, _∙_}
 use native.Mathlib.Omega.{arith}
 use lib.ListN.{length, length-map, List·getD-eq-default}

@@ -4,14 +4,14 @@ use borrow.Author.Needs.{needs}
 use Rattle.listener.proofs.state.view_of.Statement.{statement}
 use Rattle.listener.proofs.state.view_of.Tie as tie
 
-is-late-requires : tie.Need-is-late-requires
-is-late-requires c κs = search needs
+is-untimely-requires : tie.Need-is-untimely-requires
+is-untimely-requires c κs = search needs
 
 slot-at-requires : tie.Need-slot-at-requires
 slot-at-requires c κs = search needs
 
 returns : tie.Need-returns
-returns c = simp (c .before .before .before .before .is-late .ensures, c .before .before .before .slot-at .ensures)
+returns c = simp (c .before .before .before .before .is-untimely .ensures, c .before .before .before .slot-at .ensures)
 
 pub view-of-spec : {M : Type 1} → statement M
-view-of-spec = tie.close (tie.spec is-late-requires slot-at-requires returns)
+view-of-spec = tie.close (tie.spec is-untimely-requires slot-at-requires returns)

@@ -1,6 +1,5 @@
 -- `listener::state::with_slot` meets its contract: in the table, or past it.
 -- Assumes nothing.
-use Prim.Native.Nat.{_≤_}
 use mathlib.Core.Path.{_≡_, sym, ap}
 use mathlib.Core.List.{List}
 use native.Mathlib.Omega.{arith}

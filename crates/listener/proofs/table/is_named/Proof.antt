@@ -2,7 +2,7 @@
 -- Assumes nothing.
 use mathlib.Core.Path.{sym, _∙_}
 use borrow.Author.Tests.{not-true, not-false}
-use Rattle.listener.specs.Table.{holds}
+use Rattle.listener.specs.Table.{holdsPeer}
 use borrow.Author.Needs.{needs}
 use Rattle.listener.proofs.table.is_named.Statement.{statement}
 use Rattle.listener.proofs.table.is_named.Tie as tie
@@ -11,14 +11,14 @@ is-live-requires : tie.Need-is-live-requires
 is-live-requires c κs = search needs
 
 returns : tie.Need-returns
-unfolding holds
+unfolding holdsPeer
 returns c = simp (sym (c .before .is-live .ensures) ∙ not-true _ (c .if1 .taken))
 
 same-name-requires : tie.Need-same-name-requires
 same-name-requires c κs = search needs
 
 returns-2 : tie.Need-returns-2
-unfolding holds
+unfolding holdsPeer
 returns-2 c = simp (sym (c .before .before .before .is-live .ensures) ∙ not-false _ (c .before .before .if1 .left)) (c .same-name .ensures)
 
 pub is-named-spec : {M : Type 1} → statement M

@@ -1,7 +1,7 @@
 -- `listener::table::same_name` meets its contract: the ports first, then every byte.
 -- Assumes nothing.
 use lib.Dec.{eqb}
-use Prim.Native.Nat.{ℕ, _-_, _≤_, _<_}
+use Prim.Native.Nat.{_-_, _≤_, _<_}
 use mathlib.Core.Path.{_≡_, refl}
 use mathlib.Core.Bool.{_&&_}
 use mathlib.Core.Logic.{⊎-elim}

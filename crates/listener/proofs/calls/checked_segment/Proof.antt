@@ -1,20 +1,19 @@
--- `listener::calls::take_in` meets its contract: by the checks.
+-- `listener::calls::checked_segment` meets its contract: by the checks.
 -- Assumes nothing.
-use Prim.Native.Nat.{ℕ}
-use mathlib.Core.Path.{_≡_, sym, ap, _∙_}
+use mathlib.Core.Path.{sym, _∙_}
 use lib.ListN.{length}
 use borrow.Author.Tests.{not-true, not-false}
-use Rattle.listener.specs.View.{isLate}
+use Rattle.listener.specs.View.{isUntimely}
 use Rattle.listener.proofs.Calling.{taken-refused, taken-unanswered, taken-answered, wired-short, wired-timely, time-most, unwritten, left-alone, written-over}
 use borrow.Author.Needs.{needs}
-use Rattle.listener.proofs.calls.take_in.Statement.{statement}
-use Rattle.listener.proofs.calls.take_in.Tie as tie
+use Rattle.listener.proofs.calls.checked_segment.Statement.{statement}
+use Rattle.listener.proofs.calls.checked_segment.Tie as tie
 
 block-of-requires : tie.Need-block-of-requires
 block-of-requires c κs =
     let s = c .before .before .before in
     let a = s .args in
-    wired-short (a .l .home) (isLate (a .l .clock) (a .time)) (a .src .now) (a .seg .now) (length (a .out .now)) (s .pre .1)
+    wired-short (a .l .home) (isUntimely (a .l .clock) (a .time)) (a .src .now) (a .seg .now) (length (a .out .now)) (s .pre .1)
 
 scan-table-requires : tie.Need-scan-table-requires
 scan-table-requires c κs = search needs
@@ -41,7 +40,7 @@ act-requires : tie.Need-act-requires
 act-requires c κs =
     let s = c .before .before .before .before .before .before .before .before .before .before in
     let a = s .args in
-    time-most (a .l .clock) (a .time) (wired-timely (a .l .home) (isLate (a .l .clock) (a .time)) (a .src .now) (a .seg .now) (length (a .out .now)) (s .pre .1))
+    time-most (a .l .clock) (a .time) (wired-timely (a .l .home) (isUntimely (a .l .clock) (a .time)) (a .src .now) (a .seg .now) (length (a .out .now)) (s .pre .1))
 
 is-answered-requires : tie.Need-is-answered-requires
 is-answered-requires c κs = search needs
@@ -84,8 +83,8 @@ returns-3 c =
     (sym (c .before .before .before .before .before .before .before .before .before .before .before .before .before .before .check-kind .ensures) ∙ c .before .before .before .before .before .before .before .before .before .before .before .before .enum-told .given .1) (c .before .before .before .before .before .before .before .before .before .before .before .act .result) (c .before .before .before .before .before .before .before .before .before .before .before .act .ensures) (c .after-segment2 .ensures)
     (sym (c .before .before .before .before .before .before .before .before .is-answered .ensures) ∙ not-false _ (c .before .before .before .before .before .before .before .if1 .left))) (c .before .before .before .write-from .ensures)
 
-pub take-in-spec : {M : Type 1} → statement M
-take-in-spec =
+pub checked-segment-spec : {M : Type 1} → statement M
+checked-segment-spec =
     tie.close
     (tie.spec
     block-of-requires

@@ -1,10 +1,10 @@
--- `listener::checks::check_numbers` meets its contract: each test with its refusal.
+-- `listener::checks::check_sequence` meets its contract: each test with its refusal.
 -- Assumes nothing.
 use mathlib.Core.Path.{sym, _∙_}
 use borrow.Author.Tests.{not-true, not-false}
 use borrow.Author.Needs.{needs}
-use Rattle.listener.proofs.checks.check_numbers.Statement.{statement}
-use Rattle.listener.proofs.checks.check_numbers.Tie as tie
+use Rattle.listener.proofs.checks.check_sequence.Statement.{statement}
+use Rattle.listener.proofs.checks.check_sequence.Tie as tie
 
 is-waiting-requires : tie.Need-is-waiting-requires
 is-waiting-requires c κs = search needs
@@ -18,5 +18,5 @@ returns-2 c = simp (sym (c .before .before .is-waiting .ensures) ∙ not-false _
 returns-3 : tie.Need-returns-3
 returns-3 c = simp (sym (c .before .before .is-waiting .ensures) ∙ not-false _ (c .before .if1 .left), c .if2 .left)
 
-pub check-numbers-spec : {M : Type 1} → statement M
-check-numbers-spec = tie.close (tie.spec is-waiting-requires returns returns-2 returns-3)
+pub check-sequence-spec : {M : Type 1} → statement M
+check-sequence-spec = tie.close (tie.spec is-waiting-requires returns returns-2 returns-3)

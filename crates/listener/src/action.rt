@@ -1,12 +1,12 @@
 // What a segment that was not refused does to its connection.
 use crate::answer::Event;
-use crate::cookie::consider;
+use crate::cookie::check_option;
 use crate::state::View;
 use crate::table::Slot;
 use crate::table::Status;
 use crate::table::after_reset;
 use crate::table::is_free;
-use crate::table::turned_to;
+use crate::table::with_status;
 use segment::header::Header;
 use segment::header::Kind;
 use segment::header::option_area;
@@ -16,10 +16,9 @@ ghost use mathlib.Core.Path.{_≡_};
 ghost use mathlib.Core.Bool.{true, false};
 ghost use Prim.Native.Nat.{_≤_, _^_, min};
 ghost use lib.ListN.{length};
-ghost use Rattle.segment.specs.Header.{payloadOf};
 ghost use Rattle.listener.specs.Table.{newSlot};
 ghost use Rattle.listener.specs.Cookie.{cookieUnder};
-ghost use Rattle.listener.specs.Step.{cookiesRun, isEarly, newEvent, segmentEvent, slotAfter, freshWith};
+ghost use Rattle.listener.specs.Step.{cookiesRun, isEarly, accepts, newEvent, segmentEvent, slotAfter, freshWith};
 
 // What happened, the connection's slot after it, and the fresh cookie if one goes with the answer.
 pub(crate) struct Action {
@@ -74,15 +73,15 @@ fn cookies_run(v: View) -> bool
 
 // A new connection.
 fn open_new(v: View, time: u64, b: [u8; 16], h: Header, iss: u32, seg: &[u8]) -> Action
-    ensures { λ r. ⌜ r .event ≡ newEvent (isEarly v b (now (seg .entry))) (min (length (payloadOf (now (seg .entry)))) (v .settings .room)) ⌝ }
-    ensures { λ r. ⌜ r .slot ≡ slotAfter v time b h iss (newEvent (isEarly v b (now (seg .entry))) (min (length (payloadOf (now (seg .entry)))) (v .settings .room))) ⌝ }
-    ensures { λ r. ⌜ r .fresh ≡ freshWith v b (now (seg .entry)) (newEvent (isEarly v b (now (seg .entry))) (min (length (payloadOf (now (seg .entry)))) (v .settings .room))) ⌝ }
+    ensures { λ r. ⌜ r .event ≡ newEvent (isEarly v b (now (seg .entry))) (accepts (v .settings) (now (seg .entry))) ⌝ }
+    ensures { λ r. ⌜ r .slot ≡ slotAfter v time b h iss (newEvent (isEarly v b (now (seg .entry))) (accepts (v .settings) (now (seg .entry)))) ⌝ }
+    ensures { λ r. ⌜ r .fresh ≡ freshWith v b (now (seg .entry)) (newEvent (isEarly v b (now (seg .entry))) (accepts (v .settings) (now (seg .entry)))) ⌝ }
     ensures { λ r. ⌜ (r .fresh ≡ true → r .cookie ≡ cookieUnder (v .keys .present) b) ⌝ }
 {
     let keys = v.keys;
     let options = segment_options(seg);
     let fast = options.fast;
-    let offer = consider(cookies_run(v), keys, b, option_area(seg), fast);
+    let offer = check_option(cookies_run(v), keys, b, option_area(seg), fast);
     let cookie = offer.cookie;
     if offer.right {
         let g = v.settings;
@@ -127,11 +126,11 @@ pub(crate) fn act(
             }
             without_cookie(Event::Retransmission, slot)
         }
-        Kind::Ack => without_cookie(Event::Completed, turned_to(slot, Status::Established)),
+        Kind::Ack => without_cookie(Event::Completed, with_status(slot, Status::Established)),
         Kind::Rst => {
             let g = v.settings;
             let end = time + (g.hold as u64);
-            without_cookie(Event::WasReset, turned_to(slot, after_reset(end, status)))
+            without_cookie(Event::WasReset, with_status(slot, after_reset(end, status)))
         }
         Kind::Other => without_cookie(Event::Done, slot),
     }

@@ -1,15 +1,13 @@
--- `listener::opening::act` meets its contract: by the kind.
+-- `listener::action::act` meets its contract: by the kind.
 -- Assumes nothing.
-use Prim.Native.Nat.{ℕ, _+_}
-use mathlib.Core.Path.{_≡_, refl, sym, ap, _∙_}
-use native.Mathlib.Omega.{arith}
-use Rattle.listener.specs.Table.{turned}
+use mathlib.Core.Path.{refl, sym, ap, _∙_}
+use Rattle.listener.specs.Table.{withStatus}
 use Rattle.listener.specs.declared.table.Status.{Status}
 use Rattle.listener.specs.declared.answer.Event.the-variants as events
 use Rattle.listener.proofs.Acting.{acts-as, acts-quiet}
 use borrow.Author.Needs.{needs}
-use Rattle.listener.proofs.opening.act.Statement.{statement}
-use Rattle.listener.proofs.opening.act.Tie as tie
+use Rattle.listener.proofs.action.act.Statement.{statement}
+use Rattle.listener.proofs.action.act.Tie as tie
 
 enum-told : tie.Need-enum-told
 enum-told c = search needs
@@ -29,8 +27,8 @@ without-cookie-requires c κs = search needs
 enum-told-2 : tie.Need-enum-told-2
 enum-told-2 c = search needs
 
-turned-to-requires : tie.Need-turned-to-requires
-turned-to-requires c κs = search needs
+with-status-requires : tie.Need-with-status-requires
+with-status-requires c κs = search needs
 
 without-cookie-requires-2 : tie.Need-without-cookie-requires-2
 without-cookie-requires-2 c κs = search needs
@@ -47,8 +45,8 @@ add-end c = search needs
 after-reset-requires : tie.Need-after-reset-requires
 after-reset-requires c κs = search needs
 
-turned-to-requires-2 : tie.Need-turned-to-requires-2
-turned-to-requires-2 c κs = search needs
+with-status-requires-2 : tie.Need-with-status-requires-2
+with-status-requires-2 c κs = search needs
 
 without-cookie-requires-3 : tie.Need-without-cookie-requires-3
 without-cookie-requires-3 c κs = search needs
@@ -69,14 +67,14 @@ returns-3 : tie.Need-returns-3
 returns-3 c =
     let a = c .before .before .before .before .before .before .args in
     acts-as (a .v) (a .time) (a .b) (a .h) (a .iss) (a .seg .now) events.Completed _ _ (rw (c .before .before .enum-told2 .given .1))
-    (acts-quiet (a .v) (a .time) (a .b) (a .h) (a .iss) (a .seg .now) events.Completed _ refl (c .without-cookie2 .ensures .0) (c .without-cookie2 .ensures .1 ∙ c .before .turned-to .ensures) (c .without-cookie2 .ensures .2))
+    (acts-quiet (a .v) (a .time) (a .b) (a .h) (a .iss) (a .seg .now) events.Completed _ refl (c .without-cookie2 .ensures .0) (c .without-cookie2 .ensures .1 ∙ c .before .with-status .ensures) (c .without-cookie2 .ensures .2))
 
 returns-4 : tie.Need-returns-4
 returns-4 c =
     let a = c .before .before .before .before .before .before .before .before .before .args in
     acts-as (a .v) (a .time) (a .b) (a .h) (a .iss) (a .seg .now) events.WasReset _ _ (rw (c .before .before .before .before .before .enum-told3 .given .1))
     (acts-quiet (a .v) (a .time) (a .b) (a .h) (a .iss) (a .seg .now) events.WasReset _ refl (c .without-cookie3 .ensures .0)
-    (c .without-cookie3 .ensures .1 ∙ (c .before .turned-to2 .ensures ∙ ap (λ (x : Status). turned (a .v .slot) x) (c .before .before .after-reset .ensures))) (c .without-cookie3 .ensures .2))
+    (c .without-cookie3 .ensures .1 ∙ (c .before .with-status2 .ensures ∙ ap (λ (x : Status). withStatus (a .v .slot) x) (c .before .before .after-reset .ensures))) (c .without-cookie3 .ensures .2))
 
 returns-5 : tie.Need-returns-5
 returns-5 c =
@@ -94,13 +92,13 @@ act-spec =
     returns
     without-cookie-requires
     enum-told-2
-    turned-to-requires
+    with-status-requires
     without-cookie-requires-2
     enum-told-3
     cast-end
     add-end
     after-reset-requires
-    turned-to-requires-2
+    with-status-requires-2
     without-cookie-requires-3
     enum-told-4
     without-cookie-requires-4

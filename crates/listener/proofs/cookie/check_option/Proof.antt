@@ -2,29 +2,26 @@
 -- Assumes nothing.
 use mathlib.Core.Bool.{true, false}
 use Rattle.listener.specs.Cookie.{found}
-use mathlib.Core.Path.{refl, ap, _∙_}
-use mathlib.Core.List.{List}
-use Prim.Native.Nat.{ℕ}
+use mathlib.Core.Path.{refl}
 use borrow.Author.Tests.{not-true, not-false}
-use Rattle.listener.specs.Cookie.{weighed}
 use Rattle.listener.proofs.Acting.{considered-off, considered-nothing, considered-request, considered-cookie}
 use borrow.Author.Needs.{needs}
-use Rattle.listener.proofs.cookie.consider.Statement.{statement}
-use Rattle.listener.proofs.cookie.consider.Tie as tie
+use Rattle.listener.proofs.cookie.check_option.Statement.{statement}
+use Rattle.listener.proofs.cookie.check_option.Tie as tie
 
-no-offer-requires : tie.Need-no-offer-requires
-no-offer-requires c κs = search needs
+no-option-requires : tie.Need-no-option-requires
+no-option-requires c κs = search needs
 
 returns : tie.Need-returns
 returns c =
     let a = c .before .before .before .args in
-    considered-off (a .run) (a .keys) (a .b) (c .no-offer .result) (found (a .fast) (a .area .now)) (not-true _ (c .before .if1 .taken)) (c .no-offer .ensures .0) (c .no-offer .ensures .1)
+    considered-off (a .run) (a .keys) (a .b) (c .no-option .result) (found (a .fast) (a .area .now)) (not-true _ (c .before .if1 .taken)) (c .no-option .ensures .0) (c .no-option .ensures .1)
 
 enum-told : tie.Need-enum-told
 enum-told c = search needs
 
-no-offer-requires-2 : tie.Need-no-offer-requires-2
-no-offer-requires-2 c κs = search needs
+no-option-requires-2 : tie.Need-no-option-requires-2
+no-option-requires-2 c κs = search needs
 
 enum-told-2 : tie.Need-enum-told-2
 enum-told-2 c = search needs
@@ -38,13 +35,13 @@ enum-known-fast c = search needs
 cookie-requires : tie.Need-cookie-requires
 cookie-requires c κs = search needs
 
-weigh-requires : tie.Need-weigh-requires
-weigh-requires c κs = search needs
+check-cookie-requires : tie.Need-check-cookie-requires
+check-cookie-requires c κs = search needs
 
 returns-2 : tie.Need-returns-2
 returns-2 c =
     let a = c .before .before .before .before .before .args in
-    rw (c .before .enum-told .given .1) (considered-nothing (a .run) (a .keys) (a .b) (c .no-offer2 .result) (c .no-offer2 .ensures .0) (c .no-offer2 .ensures .1))
+    rw (c .before .enum-told .given .1) (considered-nothing (a .run) (a .keys) (a .b) (c .no-option2 .result) (c .no-option2 .ensures .0) (c .no-option2 .ensures .1))
 
 returns-3 : tie.Need-returns-3
 returns-3 c =
@@ -56,21 +53,21 @@ returns-4 : tie.Need-returns-4
 returns-4 c =
     let a = c .before .before .before .before .before .before .before .args in
     rw (c .before .before .before .fast .given .1)
-    (considered-cookie (a .run) (a .keys) (a .b) (c .weigh .result) _ (not-false _ (c .before .before .before .before .before .if1 .left)) (rw (c .before .cookie .ensures) at (c .weigh .ensures)))
+    (considered-cookie (a .run) (a .keys) (a .b) (c .check-cookie .result) _ (not-false _ (c .before .before .before .before .before .if1 .left)) (rw (c .before .cookie .ensures) at (c .check-cookie .ensures)))
 
-pub consider-spec : {M : Type 1} → statement M
-consider-spec =
+pub check-option-spec : {M : Type 1} → statement M
+check-option-spec =
     tie.close
     (tie.spec
-    no-offer-requires
+    no-option-requires
     returns
     enum-told
-    no-offer-requires-2
+    no-option-requires-2
     enum-told-2
     make-cookie-requires
     enum-known-fast
     cookie-requires
-    weigh-requires
+    check-cookie-requires
     returns-2
     returns-3
     returns-4)

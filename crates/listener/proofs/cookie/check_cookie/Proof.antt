@@ -1,0 +1,41 @@
+-- `listener::cookie::weigh` meets its contract: by the key that its cookie is under.
+-- Assumes nothing.
+use mathlib.Core.Path.{sym, _∙_}
+use borrow.Author.Tests.{not-true, not-false}
+use Rattle.listener.proofs.Acting.{cookie-present, cookie-alone, cookie-previous}
+use borrow.Author.Needs.{needs}
+use Rattle.listener.proofs.cookie.check_cookie.Statement.{statement}
+use Rattle.listener.proofs.cookie.check_cookie.Tie as tie
+
+make-cookie-requires : tie.Need-make-cookie-requires
+make-cookie-requires c κs = search needs
+
+is-cookie-requires : tie.Need-is-cookie-requires
+is-cookie-requires c κs = search needs
+
+returns : tie.Need-returns
+returns c = cookie-present _ _ _ (c .before .before .make-cookie .ensures) (sym (c .before .is-cookie .ensures) ∙ c .if1 .taken)
+
+returns-2 : tie.Need-returns-2
+returns-2 c = cookie-alone _ _ _ (c .before .before .before .before .make-cookie .ensures) (sym (c .before .before .before .is-cookie .ensures) ∙ c .before .before .if1 .left) (not-true _ (c .if2 .taken))
+
+make-cookie-requires-2 : tie.Need-make-cookie-requires-2
+make-cookie-requires-2 c κs = search needs
+
+is-cookie-requires-2 : tie.Need-is-cookie-requires-2
+is-cookie-requires-2 c κs = search needs
+
+returns-3 : tie.Need-returns-3
+returns-3 c = cookie-previous _ _ _ (c .before .before .before .before .before .before .before .make-cookie .ensures) (sym (c .before .before .before .before .before .before .is-cookie .ensures) ∙ c .before .before .before .before .before .if1 .left) (not-false _ (c .before .before .before .if2 .left)) (c .before .make-cookie2 .ensures) (c .is-cookie2 .ensures)
+
+pub check-cookie-spec : {M : Type 1} → statement M
+check-cookie-spec =
+    tie.close
+    (tie.spec
+    make-cookie-requires
+    is-cookie-requires
+    returns
+    returns-2
+    make-cookie-requires-2
+    is-cookie-requires-2
+    returns-3)
