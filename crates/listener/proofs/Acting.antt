@@ -1,17 +1,15 @@
 -- What a Fast Open option comes to, and what a segment does: from what the functions on the way ensure. Assumes nothing.
-use Prim.Native.Nat.{ℕ, min}
+use Prim.Native.Nat.{ℕ}
 use mathlib.Core.Path.{_≡_, refl, sym, _∙_, subst}
 use mathlib.Core.Bool.{Bool, true, false, not, _&&_, false≢true}
 use mathlib.Core.List.{List}
-use lib.ListN.{length}
-use Rattle.segment.specs.Header.{optionArea, payloadOf}
+use Rattle.segment.specs.Header.{optionArea}
 use Rattle.segment.specs.Options.{optionsOf}
 use Rattle.segment.specs.declared.header.Header.{Header}
 use Rattle.segment.specs.declared.options.Options.{Options}
 use Rattle.listener.specs.Lists.{sameBytes}
-use Rattle.listener.specs.Table.{newSlot}
 use Rattle.listener.specs.Cookie.{Carried, nothing, request, cookie, found, carriedBy, counts, cookieUnder, rightUnder, right, cookieCheck}
-use Rattle.listener.specs.Step.{cookiesRun, isEarly, isFresh, newEvent, slotAfter, freshWith}
+use Rattle.listener.specs.Step.{cookiesRun, isEarly, isFresh, accepts, newEvent, slotAfter, freshWith}
 use Rattle.listener.specs.declared.state.Keys.{Keys}
 use Rattle.listener.specs.declared.state.View.{View}
 use Rattle.listener.specs.declared.cookie.OptionCheck.{OptionCheck}
@@ -19,24 +17,29 @@ use Rattle.listener.specs.declared.action.Action.{Action}
 use Rattle.listener.specs.declared.answer.Event.{Event}
 use Rattle.listener.specs.declared.answer.Event.the-variants as events
 use Rattle.listener.specs.declared.table.Slot.{Slot}
-use Rattle.listener.specs.declared.table.Status.the-variants as statuses
 
 -- A cookie that was given: it is the present key's, or there is no other key, or it is compared with the previous key's.
 module _ (k : Keys) (b given : List ℕ) {f : List ℕ} (e : f ≡ cookieUnder (k .present) b) where
   pub cookie-present : sameBytes given f ≡ true → _≡_ {A = OptionCheck} (record { right = true; fresh = false; cookie = f }) (cookieCheck k b given)
   unfolding right rightUnder
-  cookie-present s = rw (e, (rw e at s))
+  cookie-present s =
+      let q : rightUnder (k .present) b (cookie given) ≡ true = rw e at s in
+      rw (e, q)
 
   pub cookie-alone : sameBytes given f ≡ false → k .rotated ≡ false → _≡_ {A = OptionCheck} (record { right = false; fresh = true; cookie = f }) (cookieCheck k b given)
   unfolding right rightUnder
-  cookie-alone s r = rw (e, (rw e at s), r)
+  cookie-alone s r =
+      let q : rightUnder (k .present) b (cookie given) ≡ false = rw e at s in
+      rw (e, q, r)
 
   pub cookie-previous : sameBytes given f ≡ false → k .rotated ≡ true → {g : List ℕ} {same : Bool} → g ≡ cookieUnder (k .previous) b → same ≡ sameBytes given g
       → _≡_ {A = OptionCheck} (record { right = same; fresh = true; cookie = f }) (cookieCheck k b given)
   unfolding right rightUnder
-  cookie-previous s r p q = rw (e, (rw e at s), r, q, p)
+  cookie-previous s r p m =
+      let q : rightUnder (k .present) b (cookie given) ≡ false = rw e at s in
+      rw (e, q, r, m, p)
 
--- what an offer is to be, where cookies run or not
+-- what an option's check is to be, where cookies run or not
 abbrev pub Considered : Bool → Keys → List ℕ → Carried → OptionCheck → Type 0
 Considered run k b o r =
     (r .right ≡ run && right k b o)
@@ -91,28 +94,28 @@ module _ (v : View) (t : ℕ) (b : List ℕ) (h : Header) (iss : ℕ) (seg : Lis
       → Acts v t b h iss seg e r
   acts-quiet e r q x s f = (x, (s, (f ∙ sym q, λ y. absurd (false≢true (sym f ∙ y)))))
 
-  -- the offer of a new opening
+  -- a new opening, by what its option was found to be
   module _ (o : OptionCheck) (options : Options) (area : List ℕ) (run : Bool)
       (eo : options ≡ optionsOf seg) (ea : area ≡ optionArea seg) (er : run ≡ cookiesRun v) (c : Considered run (v .keys) b (found (options .fast) area) o) where
-    offer-right : o .right ≡ isEarly v b seg
+    option-right : o .right ≡ isEarly v b seg
     unfolding isEarly carriedBy
-    offer-right = rw (sym eo, sym ea, sym er) (c .0)
+    option-right = rw (sym eo, sym ea, sym er) (c .0)
 
-    offer-fresh : o .fresh ≡ isFresh v b seg
+    option-fresh : o .fresh ≡ isFresh v b seg
     unfolding isFresh carriedBy
-    offer-fresh = rw (sym eo, sym ea, sym er) (c .1 .0)
+    option-fresh = rw (sym eo, sym ea, sym er) (c .1 .0)
 
-    pub opens-early : (n : ℕ) (s : Slot) → o .right ≡ true → n ≡ min (length (payloadOf seg)) (v .settings .room)
-        → s ≡ newSlot b (h .source) (h .seq) iss (statuses.FastOpen n)
-        → Acts v t b h iss seg (newEvent (isEarly v b seg) (min (length (payloadOf seg)) (v .settings .room)))
+    pub opens-early : (n : ℕ) (s : Slot) → o .right ≡ true → n ≡ accepts (v .settings) seg
+        → s ≡ slotAfter v t b h iss (events.FastOpen n)
+        → Acts v t b h iss seg (newEvent (isEarly v b seg) (accepts (v .settings) seg))
         (record { event = events.FastOpen n; slot = s; fresh = o .fresh; cookie = o .cookie })
     opens-early n s y m e =
-        let early : isEarly v b seg ≡ true = sym offer-right ∙ y in
-        rw (early, sym m) (refl, (e, (offer-fresh, c .1 .1)))
+        let early : isEarly v b seg ≡ true = sym option-right ∙ y in
+        rw (early, sym m) (refl, (e, (option-fresh, c .1 .1)))
 
-    pub opens-regular : (s : Slot) → o .right ≡ false → s ≡ newSlot b (h .source) (h .seq) iss statuses.SynReceived
-        → Acts v t b h iss seg (newEvent (isEarly v b seg) (min (length (payloadOf seg)) (v .settings .room)))
+    pub opens-regular : (s : Slot) → o .right ≡ false → s ≡ slotAfter v t b h iss events.Regular
+        → Acts v t b h iss seg (newEvent (isEarly v b seg) (accepts (v .settings) seg))
         (record { event = events.Regular; slot = s; fresh = o .fresh; cookie = o .cookie })
     opens-regular s y e =
-        let plain : isEarly v b seg ≡ false = sym offer-right ∙ y in
-        rw plain (refl, (e, (offer-fresh, c .1 .1)))
+        let plain : isEarly v b seg ≡ false = sym option-right ∙ y in
+        rw plain (refl, (e, (option-fresh, c .1 .1)))

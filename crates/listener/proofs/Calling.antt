@@ -308,7 +308,7 @@ module _ (h : Home) (untimely : Bool) (a : List ℕ) where
   pub wired-timely : (seg : List ℕ) (room : ℕ) → refusal (wireChecks h untimely a seg room) ≡ Clear → untimely ≡ false
   wired-timely seg room e = every-check (wireChecks h untimely a seg room) e .1 .0
 
--- a time that is not untimely
+-- a time that is accepted is at most 2^48
 pub time-most : (clock t : ℕ) → isUntimely clock t ≡ false → t ≤ 2 ^ 48
 time-most clock t e = ltb-false (2 ^ 48) t (or-false (ltb t clock) (ltb (2 ^ 48) t) e .1)
 

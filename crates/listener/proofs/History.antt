@@ -1,11 +1,12 @@
 -- Demand 3: the listener and the journal agree after every list of calls. Assumes nothing.
 use Prim.Native.Nat.{ℕ, zero, suc, _+_, _≤_, _<_, min}
-use mathlib.Core.Path.{_≡_, refl, sym, ap, ap₂, _∙_}
+use mathlib.Core.Path.{_≡_, refl, sym, ap, ap₂, _∙_, subst}
 use mathlib.Core.Bool.{Bool, true, false, cond, not, _&&_, _||_, true≢false, false≢true, and-assoc, and-eq-true-iff}
 use mathlib.Core.List.{List, [], _∷_, _++_, append-nil}
 use native.Mathlib.Omega.{arith}
 use borrow.Author.Tests.{ltb-true, ltb-false, lt-ltb, le-ltb, eqb-true, not-true, not-false}
 use lib.Dec.{ltb}
+use lib.Seq.{set-getD}
 use lib.ListN.{length, getD, set, take, replicate, length-set, length-replicate, List·getD-eq-default}
 use Rattle.cipher.specs.KeyExpansion.{keyExpansion}
 use Rattle.segment.specs.Refusal.{refusal, numberOf}
@@ -280,7 +281,10 @@ module _ (l : Listener) (j : Journal) (t : ℕ) (a : Agrees l j) (forward : l .c
     opening-follows : (k : Bool) → known (view l t (sender src seg)) ≡ k → (k || view l t (sender src seg) .vacant) ≡ true
         → SegmentFollows l t src seg iss room (openingEvent k (view l t (sender src seg)) (block src) seg)
         (opened k (turnedTo t j) src seg) (saysOpening k (turnedTo t j) src seg)
-    opening-follows true e free = quiet refl (moved-agrees l j t (l .slots) (turnedTo t j .entries) a unchanged)
+    opening-follows true e free =
+        -- a repeat's slot is put back as it was
+        let same = set-getD (l .slots) (scanFor l t (sender src seg) .place) freeSlot in
+        quiet refl (subst (λ s. Agrees (moved l t s) (turnedTo t j)) (sym same) (moved-agrees l j t (l .slots) (turnedTo t j .entries) a unchanged))
     opening-follows false e free = rw (early-same (sender src seg) src seg) (new-follows e free (opensEarly (turnedTo t j) src seg))
 
     by-kind : (k : Kind) → Passed (kindChecks (view l t (sender src seg)) (fieldsOf seg) k)
@@ -342,7 +346,9 @@ one l j c a (Refused r) e = go (numberOf r) refl
 all-follow : (l : Listener) (j : Journal) (calls : List Call) → Agrees l j
     → (pendingNumber (listenerAfter l calls) ≡ pendingOf (journalAfter j (numbered l calls))) × (answers l calls ≡ sayings j (numbered l calls))
 unfolding step pendingNumber listenerAfter journalAfter numbered answers sayings
-all-follow l j [] a = (rw (a .started, a .time, ← pending-same (a .table .match)) (pending-settled (l .clock) (j .entries)), refl)
+all-follow l j [] a =
+    let same : pendingAt (l .clock) (l .slots) ≡ pendingOf j = sym (pending-same (a .table .match)) ∙ rw (a .time) (pending-settled (l .clock) (j .entries)) in
+    (rw (a .started) same, refl)
 all-follow l j (c ∷ cs) a =
     let x = one l j c a (judged l c) refl in
     let more = all-follow _ _ cs (x .agrees) in

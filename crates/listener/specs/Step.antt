@@ -138,7 +138,7 @@ abbrev pub answerTo : View → List ℕ → Slot → Bool → ℕ → List ℕ
 answerTo v a s fresh room =
     answerBytes (ownAddress (v .home)) a (answerFrom (v .home) (v .settings .mss) s fresh) (cookieUnder (v .keys .present) (block a)) room
 
--- openings are outcomeOf
+-- openings are answered
 abbrev pub isAnswered : Event → Bool
 isAnswered (events.FastOpen n) = true
 isAnswered events.Regular = true
@@ -180,11 +180,11 @@ moved l t slots = record { slots = slots; keys = l .keys; home = l .home; settin
 abbrev pub put : Listener → ℕ → ℕ → Slot → Listener
 put l t i s = moved l t (set (l .slots) i s)
 
--- a new connection takes the lowest free place, a known one keeps its own
+-- a new connection takes the lowest free place, a known one keeps its own (a repeat's slot stays as it is)
 abbrev pub segmentAfter : Listener → ℕ → Scan → Event → Slot → Listener
 segmentAfter l t found (events.FastOpen n) s = put l t (found .free) s
 segmentAfter l t found events.Regular s = put l t (found .free) s
-segmentAfter l t found events.Retransmission s = moved l t (l .slots)
+segmentAfter l t found events.Retransmission s = put l t (found .place) s
 segmentAfter l t found events.Completed s = put l t (found .place) s
 segmentAfter l t found events.WasReset s = put l t (found .place) s
 segmentAfter l t found events.Done s = moved l t (l .slots)

@@ -81,22 +81,22 @@ fn open_new(v: View, time: u64, b: [u8; 16], h: Header, iss: u32, seg: &[u8]) ->
     let keys = v.keys;
     let options = segment_options(seg);
     let fast = options.fast;
-    let offer = check_option(cookies_run(v), keys, b, option_area(seg), fast);
-    let cookie = offer.cookie;
-    if offer.right {
+    let option = check_option(cookies_run(v), keys, b, option_area(seg), fast);
+    let cookie = option.cookie;
+    if option.right {
         let g = v.settings;
         let n = accept(payload(seg), g.room);
         return Action {
             event: Event::FastOpen(n),
             slot: new_slot(b, h, iss, Status::FastOpen(n)),
-            fresh: offer.fresh,
+            fresh: option.fresh,
             cookie,
         };
     }
     Action {
         event: Event::Regular,
         slot: new_slot(b, h, iss, Status::SynReceived),
-        fresh: offer.fresh,
+        fresh: option.fresh,
         cookie,
     }
 }

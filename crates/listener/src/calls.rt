@@ -211,7 +211,7 @@ fn after_segment(l: Listener, time: u64, found: Scan, event: Event, s: Slot) -> 
         Event::Refused(_) => l,
         Event::FastOpen(_) => with_slot(l, time, found.free, s),
         Event::Regular => with_slot(l, time, found.free, s),
-        Event::Retransmission => at_time(l, time),
+        Event::Retransmission => with_slot(l, time, found.place, s),
         Event::Completed => with_slot(l, time, found.place, s),
         Event::WasReset => with_slot(l, time, found.place, s),
         Event::Done => at_time(l, time),

@@ -1,4 +1,4 @@
-// The Fast Open cookie: made, compared, and cookieCheck for an opening.
+// The Fast Open cookie: made, compared, and checked for an opening.
 use crate::state::Keys;
 use cipher::encrypt;
 use segment::options::FastOpen;
@@ -39,14 +39,13 @@ pub(crate) struct OptionCheck {
     pub cookie: [u8; 8],
 }
 
-// No option that counts, or no cookies now.
-fn no_option() -> OptionCheck
-    ensures { λ r. ⌜ (r .right ≡ false) × (r .fresh ≡ false) ⌝ }
+fn checked(right: bool, fresh: bool, cookie: [u8; 8]) -> OptionCheck
+    ensures { λ r. ⌜ r ≡ record { right = right; fresh = fresh; cookie = cookie } ⌝ }
 {
     OptionCheck {
-        right: false,
-        fresh: false,
-        cookie: [0u8; 8],
+        right,
+        fresh,
+        cookie,
     }
 }
 
@@ -56,28 +55,23 @@ fn check_cookie(keys: Keys, b: [u8; 16], given: &[u8]) -> OptionCheck
     ensures { λ r. ⌜ r ≡ cookieCheck keys b (now (given .entry)) ⌝ }
 {
     let present = keys.present;
-    let fresh = make_cookie(present, b);
-    if is_cookie(given, fresh) {
-        return OptionCheck {
-            right: true,
-            fresh: false,
-            cookie: fresh,
-        };
+    let new = make_cookie(present, b);
+    if is_cookie(given, new) {
+        return checked(true, false, new);
     }
     if !keys.rotated {
-        return OptionCheck {
-            right: false,
-            fresh: true,
-            cookie: fresh,
-        };
+        return checked(false, true, new);
     }
     let previous = keys.previous;
     let old = make_cookie(previous, b);
-    OptionCheck {
-        right: is_cookie(given, old),
-        fresh: true,
-        cookie: fresh,
-    }
+    checked(is_cookie(given, old), true, new)
+}
+
+// No option that counts, or no cookies now.
+fn no_option() -> OptionCheck
+    ensures { λ r. ⌜ (r .right ≡ false) × (r .fresh ≡ false) ⌝ }
+{
+    checked(false, false, [0u8; 8])
 }
 
 // What is made of the option that was found in an area. Where cookies do not run, nothing is computed.
@@ -99,11 +93,7 @@ pub(crate) fn check_option(
         FastOpen::Absent => no_option(),
         FastOpen::Request => {
             let present = keys.present;
-            OptionCheck {
-                right: false,
-                fresh: true,
-                cookie: make_cookie(present, b),
-            }
+            checked(false, true, make_cookie(present, b))
         }
         FastOpen::Cookie { at, len } => check_cookie(
             keys,

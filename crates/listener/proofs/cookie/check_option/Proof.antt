@@ -1,9 +1,9 @@
--- `listener::cookie::consider` meets its contract: by the option.
+-- `listener::cookie::check_option` meets its contract: by the option.
 -- Assumes nothing.
-use mathlib.Core.Bool.{true, false}
-use Rattle.listener.specs.Cookie.{found}
-use mathlib.Core.Path.{refl}
+use mathlib.Core.Path.{ap, _∙_}
 use borrow.Author.Tests.{not-true, not-false}
+use Rattle.listener.specs.Cookie.{found}
+use Rattle.listener.specs.declared.cookie.OptionCheck.{OptionCheck}
 use Rattle.listener.proofs.Acting.{considered-off, considered-nothing, considered-request, considered-cookie}
 use borrow.Author.Needs.{needs}
 use Rattle.listener.proofs.cookie.check_option.Statement.{statement}
@@ -29,6 +29,9 @@ enum-told-2 c = search needs
 make-cookie-requires : tie.Need-make-cookie-requires
 make-cookie-requires c κs = search needs
 
+checked-requires : tie.Need-checked-requires
+checked-requires c κs = search needs
+
 enum-known-fast : tie.Need-enum-known-fast
 enum-known-fast c = search needs
 
@@ -45,9 +48,11 @@ returns-2 c =
 
 returns-3 : tie.Need-returns-3
 returns-3 c =
-    let a = c .before .before .before .before .before .before .args in
-    rw (c .before .before .enum-told2 .given .1)
-    (considered-request (a .run) (a .keys) (a .b) (record { right = false; fresh = true; cookie = c .make-cookie .result }) (not-false _ (c .before .before .before .before .if1 .left)) refl refl (c .make-cookie .ensures))
+    let a = c .before .before .before .before .before .before .before .args in
+    let r = c .checked .ensures in
+    rw (c .before .before .before .enum-told2 .given .1)
+    (considered-request (a .run) (a .keys) (a .b) (c .checked .result) (not-false _ (c .before .before .before .before .before .if1 .left)) (ap (λ (x : OptionCheck). x .right) r) (ap (λ (x : OptionCheck). x .fresh) r)
+    (ap (λ (x : OptionCheck). x .cookie) r ∙ c .before .make-cookie .ensures))
 
 returns-4 : tie.Need-returns-4
 returns-4 c =
@@ -65,6 +70,7 @@ check-option-spec =
     no-option-requires-2
     enum-told-2
     make-cookie-requires
+    checked-requires
     enum-known-fast
     cookie-requires
     check-cookie-requires
