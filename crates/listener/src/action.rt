@@ -18,7 +18,7 @@ ghost use Prim.Native.Nat.{_≤_, _^_, min};
 ghost use lib.ListN.{length};
 ghost use Rattle.listener.specs.Table.{newSlot};
 ghost use Rattle.listener.specs.Cookie.{cookieUnder};
-ghost use Rattle.listener.specs.Step.{cookiesRun, isEarly, accepts, newEvent, segmentEvent, slotAfter, freshWith};
+ghost use Rattle.listener.specs.Step.{cookiesRun, openingEvent, segmentEvent, slotAfter, freshWith};
 
 // What happened, the connection's slot after it, and the fresh cookie if one goes with the answer.
 pub(crate) struct Action {
@@ -73,9 +73,9 @@ fn cookies_run(v: View) -> bool
 
 // A new connection.
 fn open_new(v: View, time: u64, b: [u8; 16], h: Header, iss: u32, seg: &[u8]) -> Action
-    ensures { λ r. ⌜ r .event ≡ newEvent (isEarly v b (now (seg .entry))) (accepts (v .settings) (now (seg .entry))) ⌝ }
-    ensures { λ r. ⌜ r .slot ≡ slotAfter v time b h iss (newEvent (isEarly v b (now (seg .entry))) (accepts (v .settings) (now (seg .entry)))) ⌝ }
-    ensures { λ r. ⌜ r .fresh ≡ freshWith v b (now (seg .entry)) (newEvent (isEarly v b (now (seg .entry))) (accepts (v .settings) (now (seg .entry)))) ⌝ }
+    ensures { λ r. ⌜ r .event ≡ openingEvent false v b (now (seg .entry)) ⌝ }
+    ensures { λ r. ⌜ r .slot ≡ slotAfter v time b h iss (openingEvent false v b (now (seg .entry))) ⌝ }
+    ensures { λ r. ⌜ r .fresh ≡ freshWith v b (now (seg .entry)) (openingEvent false v b (now (seg .entry))) ⌝ }
     ensures { λ r. ⌜ (r .fresh ≡ true → r .cookie ≡ cookieUnder (v .keys .present) b) ⌝ }
 {
     let keys = v.keys;
