@@ -56,8 +56,8 @@ module _ (l : Listener) (t : ℕ) (src seg : List ℕ) (iss room : ℕ) (clear :
   v = view l t (sender src seg)
 
   -- a done segment's kind is told
-  pub kind-told : kindOfEvent (step l this .event) ≡ wordOf (kindOf (fieldsOf seg .flags))
-  kind-told = rw (step-done l this clear) (kind-is v (block src) seg (kindOf (fieldsOf seg .flags)))
+  pub kind-said : kindOfEvent (step l this .event) ≡ wordOf (kindOf (fieldsOf seg .flags))
+  kind-said = rw (step-done l this clear) (kind-is v (block src) seg (kindOf (fieldsOf seg .flags)))
 
   answer-size : (s : Slot) (fresh : Bool) → length (answerTo v src s fresh room) ≡ answerLength fresh
   answer-size s fresh =

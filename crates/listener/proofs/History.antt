@@ -27,7 +27,7 @@ use Rattle.listener.specs.View.{isUntimely, known, scanFor, view, viewOf
 use Rattle.listener.specs.Refusals.{timely, addressed, kindChecks, checks, judged}
 use Rattle.listener.specs.Step as steps
 use Rattle.listener.specs.Step.{familyOf, freshListener, startChecks, startedBy, startOf, newEvent, openingEvent, segmentEvent, doneEvent, slotAfter, moved, put, segmentAfter, freed, inForce, after, outcomeOf, step, pendingNumber}
-use Rattle.listener.specs.Journal.{Mark, markPlain, markEarly, markOpen, markHeld, Entry, PreviousKey, noKey, aKey, Journal, begun, pendingOf, named, has, kept, only, struck, completed, resetMark, wasReset, with, amended, rightBefore, hasRight, opensEarly, newMark, opened, turnedTo, segmentNoted, noted, feed, Said, saysNew, saysOpening, saysSegment, saysDone, says}
+use Rattle.listener.specs.Journal.{Mark, markPlain, markEarly, markOpen, markHeld, Entry, PreviousKey, noKey, aKey, Journal, begun, pendingOf, named, has, kept, only, struck, completed, resetMark, wasReset, with, amended, rightBefore, hasRight, opensEarly, newMark, opened, atTime, segmentNoted, noted, feed, Said, saysNew, saysOpening, saysSegment, saysDone, says}
 use Rattle.listener.specs.Demand3.{segmentOf, answerSays, listenerAfter, answers, numbered, journalAfter, sayings, Demand3}
 use Rattle.listener.specs.declared.address.Family.{Family}
 use Rattle.listener.specs.declared.address.Family.the-variants.{V4, V6}
@@ -89,13 +89,13 @@ handed c n h = rw (le-ltb (length (payloadOf (segmentOf c))) n h)
 
 -- at a call's time, with other slots and entries
 moved-agrees : (l : Listener) (j : Journal) (t : ℕ) (slots : List Slot) (es : List Entry) → Agrees l j → Table (l .home .family) t slots es
-    → Agrees (moved l t slots) (with (turnedTo t j) es)
+    → Agrees (moved l t slots) (with (atTime t j) es)
 moved-agrees l j t slots es a b =
     record { started = a .started; time = refl; settings = a .settings; present = a .present; previous = a .previous; table = b }
 
 -- one slot changes
 put-agrees : (l : Listener) (j : Journal) (t i : ℕ) (s : Slot) (es : List Entry) → Agrees l j → Fits (l .home .family) s
-    → Settled (l .home .family) t (set (l .slots) i s) es → Agrees (put l t i s) (with (turnedTo t j) es)
+    → Settled (l .home .family) t (set (l .slots) i s) es → Agrees (put l t i s) (with (atTime t j) es)
 put-agrees l j t i s es a fit m =
     moved-agrees l j t (set (l .slots) i s) es a
     (record { long = length-set (l .slots) i s ∙ a .table .long; fits = all-set (Fits (l .home .family)) (l .slots) i s (a .table .fits) fit; match = m })
@@ -143,14 +143,14 @@ on-time l t e = ltb-false t (l .clock) (or-false _ _ e .0)
 
 module _ (l : Listener) (j : Journal) (t : ℕ) (a : Agrees l j) (forward : l .clock ≤ t) where
   -- the slots and the journal at the call's time
-  now : Match (l .home .family) t (l .slots) (turnedTo t j .entries)
+  now : Match (l .home .family) t (l .slots) (atTime t j .entries)
   now = turned-on (l .home .family) (l .clock) t (l .slots) (j .entries) forward (a .table .match)
 
-  unchanged : Table (l .home .family) t (l .slots) (turnedTo t j .entries)
+  unchanged : Table (l .home .family) t (l .slots) (atTime t j .entries)
   unchanged = record { long = a .table .long; fits = a .table .fits; match = settled now }
 
   -- a cookie is right under the round keys exactly if it is under the journal's keys
-  right-same : (src seg : List ℕ) → right (l .keys) (block src) (carriedBy seg) ≡ hasRight (turnedTo t j) src seg
+  right-same : (src seg : List ℕ) → right (l .keys) (block src) (carriedBy seg) ≡ hasRight (atTime t j) src seg
   unfolding right hasRight
   right-same src seg = ap₂ _||_ (ap (λ k. rightUnder k b o) (a .present)) (before (l .keys) (j .previous) (a .previous))
     where
@@ -164,7 +164,7 @@ module _ (l : Listener) (j : Journal) (t : ℕ) (a : Agrees l j) (forward : l .c
       before k noKey e = rw e
       before k (aKey was) e = rw (e .0, e .1)
 
-  early-same : (p : Peer) (src seg : List ℕ) → steps.isEarly (view l t p) (block src) seg ≡ opensEarly (turnedTo t j) src seg
+  early-same : (p : Peer) (src seg : List ℕ) → steps.isEarly (view l t p) (block src) seg ≡ opensEarly (atTime t j) src seg
   unfolding steps.isEarly opensEarly
   early-same p src seg =
       and-assoc (l .settings .on) (ltb (pendingAt t (l .slots)) (l .settings .limit)) (right (l .keys) (block src) (carriedBy seg))
@@ -190,11 +190,11 @@ module _ (l : Listener) (j : Journal) (t : ℕ) (a : Agrees l j) (forward : l .c
         go false e = absurd (false≢true (sym free ∙ (ap (λ s. q (s .status)) (sym (List·getD-eq-default (l .slots) freeSlot (ltb-false _ _ e))) ∙ h)))
 
     -- the journal has an entry exactly if the table has the connection
-    known-has : has p (turnedTo t j .entries) ≡ known (view l t p)
+    known-has : has p (atTime t j .entries) ≡ known (view l t p)
     known-has = one-test _ _ there back
       where
         entries : ℕ
-        entries = tally (named p) (turnedTo t j .entries)
+        entries = tally (named p) (atTime t j .entries)
 
         live-known : (st : Status) → isLive t st ≡ true → not (isFree st) ≡ true
         live-known Free e = e
@@ -226,10 +226,10 @@ module _ (l : Listener) (j : Journal) (t : ℕ) (a : Agrees l j) (forward : l .c
     -- its slot gets another status, and its entry changes by a rule
     changed : (st : Status) (rule : Entry → List Entry) (q : Status → Bool) → q Free ≡ false → q (view l t p .slot .status) ≡ true → Thins rule
         → ((n : Peer) → entryFor t n st ≡ amend (λ e. amend (kept t) (rule e)) (entryFor t n (view l t p .slot .status)))
-        → Agrees (put l t (scanFor l t p .place) (withStatus (view l t p .slot) st)) (amended (turnedTo t j) p rule)
+        → Agrees (put l t (scanFor l t p .place) (withStatus (view l t p .slot) st)) (amended (atTime t j) p rule)
     changed st rule q free h thin e =
         let f = l .home .family in
-        let es = turnedTo t j .entries in
+        let es = atTime t j .entries in
         let i = scanFor l t p .place in
         let s = view l t p .slot in
         let there = placed q free h in
@@ -240,9 +240,9 @@ module _ (l : Listener) (j : Journal) (t : ℕ) (a : Agrees l j) (forward : l .c
     entered : (irs iss : ℕ) (st : Status) (k : Mark) → known (view l t p) ≡ false → view l t p .vacant ≡ true
         → ((n : Peer) → entryFor t n st ≡ record { who = n; mark = k } ∷ [])
         → Agrees (put l t (scanFor l t p .free) (newSlot (block (p .address)) (p .port) irs iss st))
-        (with (turnedTo t j) (record { who = p; mark = k } ∷ turnedTo t j .entries))
+        (with (atTime t j) (record { who = p; mark = k } ∷ atTime t j .entries))
     entered irs iss st k new room e =
-        put-agrees l j t i s (record { who = p; mark = k } ∷ turnedTo t j .entries) a (ap block (sym address))
+        put-agrees l j t i s (record { who = p; mark = k } ∷ atTime t j .entries) a (ap block (sym address))
         (settled (match-add now p k i s none inside vacant entry))
       where
         i : ℕ
@@ -254,8 +254,8 @@ module _ (l : Listener) (j : Journal) (t : ℕ) (a : Agrees l j) (forward : l .c
         address : take (size (l .home .family)) (block (p .address)) ≡ p .address
         address = short (size (l .home .family)) (p .address) home
 
-        none : tally (named p) (turnedTo t j .entries) ≡ 0
-        none = omega (arith, ltb-false 0 (tally (named p) (turnedTo t j .entries)) (known-has ∙ new))
+        none : tally (named p) (atTime t j .entries) ≡ 0
+        none = omega (arith, ltb-false 0 (tally (named p) (atTime t j .entries)) (known-has ∙ new))
 
         inside : i < length (l .slots)
         inside = omega (arith, ltb-true i 64 room, a .table .long)
@@ -270,7 +270,7 @@ module _ (l : Listener) (j : Journal) (t : ℕ) (a : Agrees l j) (forward : l .c
   module _ (src seg : List ℕ) (iss room : ℕ) (home : length src ≡ size (l .home .family)) where
     new-follows : known (view l t (sender src seg)) ≡ false → view l t (sender src seg) .vacant ≡ true → (b : Bool)
         → SegmentFollows l t src seg iss room (newEvent b (min (length (payloadOf seg)) (l .settings .room)))
-        (with (turnedTo t j) (record { who = sender src seg; mark = newMark b } ∷ turnedTo t j .entries)) (saysNew b (turnedTo t j) seg)
+        (with (atTime t j) (record { who = sender src seg; mark = newMark b } ∷ atTime t j .entries)) (saysNew b (atTime t j) seg)
     new-follows new free true =
         record {
           agrees = entered (sender src seg) home (fieldsOf seg .seq) iss (FastOpen (min (length (payloadOf seg)) (l .settings .room))) markEarly new free (λ m. refl);
@@ -280,16 +280,16 @@ module _ (l : Listener) (j : Journal) (t : ℕ) (a : Agrees l j) (forward : l .c
 
     opening-follows : (k : Bool) → known (view l t (sender src seg)) ≡ k → (k || view l t (sender src seg) .vacant) ≡ true
         → SegmentFollows l t src seg iss room (openingEvent k (view l t (sender src seg)) (block src) seg)
-        (opened k (turnedTo t j) src seg) (saysOpening k (turnedTo t j) src seg)
+        (opened k (atTime t j) src seg) (saysOpening k (atTime t j) src seg)
     opening-follows true e free =
         -- a repeat's slot is put back as it was
         let same = set-getD (l .slots) (scanFor l t (sender src seg) .place) freeSlot in
-        quiet refl (subst (λ s. Agrees (moved l t s) (turnedTo t j)) (sym same) (moved-agrees l j t (l .slots) (turnedTo t j .entries) a unchanged))
-    opening-follows false e free = rw (early-same (sender src seg) src seg) (new-follows e free (opensEarly (turnedTo t j) src seg))
+        quiet refl (subst (λ s. Agrees (moved l t s) (atTime t j)) (sym same) (moved-agrees l j t (l .slots) (atTime t j .entries) a unchanged))
+    opening-follows false e free = rw (early-same (sender src seg) src seg) (new-follows e free (opensEarly (atTime t j) src seg))
 
     by-kind : (k : Kind) → Passed (kindChecks (view l t (sender src seg)) (fieldsOf seg) k)
         → SegmentFollows l t src seg iss room (segmentEvent (view l t (sender src seg)) (block src) seg k)
-        (segmentNoted (turnedTo t j) src seg k) (saysSegment (turnedTo t j) src seg k)
+        (segmentNoted (atTime t j) src seg k) (saysSegment (atTime t j) src seg k)
     unfolding segmentNoted saysSegment
     by-kind Syn q = rw (known-has (sender src seg) home) (opening-follows (known (view l t (sender src seg))) refl (not-false _ (q .1 .0)))
     by-kind Ack q =
@@ -308,14 +308,14 @@ released : (l : Listener) (j : Journal) (t : ℕ) → Agrees l j → (b : List �
     → let p : Peer = record { address = b; port = port } in
     let v = view l t p in
     Passed (timely (v .home) (v .untimely) ++ addressed (v .home) b ++ ((NoConnection, not (q (v .slot .status))) ∷ []))
-    → Agrees (freed l t p) (amended (turnedTo t j) p struck)
+    → Agrees (freed l t p) (amended (atTime t j) p struck)
 released l j t a b port q free c =
     let p : Peer = record { address = b; port = port } in
     changed l j t a (on-time l t (c .1 .0)) p (eqb-true _ _ (not-false _ (c .1 .1 .0))) Free struck q free (not-false _ (c .1 .1 .1 .0))
     (λ m e. omega arith) (λ m. struck-entry t m (view l t p .slot .status))
 
 done : (l : Listener) (j : Journal) (c : Call) → Agrees l j → Passed (checks (viewOf l c) c)
-    → Follows c (after l c) (doneEvent (viewOf l c) c) (noted (turnedTo (timeOf c) j) c) (saysDone (turnedTo (timeOf c) j) c)
+    → Follows c (after l c) (doneEvent (viewOf l c) c) (noted (atTime (timeOf c) j) c) (saysDone (atTime (timeOf c) j) c)
 unfolding after noted saysDone
 done l j (segment t src seg iss room) a q =
     by-kind l j t a (on-time l t (q .1 .0)) src seg iss room (eqb-true _ _ (not-false _ (q .1 .1 .0))) (kindOf (fieldsOf seg .flags)) (q .1 .1 .1 .1 .1 .1 .1)
@@ -326,7 +326,7 @@ done l j (key t k) a q =
     let table = unchanged l j t a (on-time l t (q .1 .0)) in
     quiet refl (record { started = a .started; time = refl; settings = a .settings; present = refl; previous = (refl, a .present); table = table })
 done l j (abandon t b p) a q = quiet refl (released l j t a b p isWaiting refl q)
-done l j (resend t b p room) a q = quiet refl (moved-agrees l j t (l .slots) (turnedTo t j .entries) a (unchanged l j t a (on-time l t (q .1 .0))))
+done l j (resend t b p room) a q = quiet refl (moved-agrees l j t (l .slots) (atTime t j .entries) a (unchanged l j t a (on-time l t (q .1 .0))))
 done l j (close t b p) a q = quiet refl (released l j t a b p isEstablished refl q)
 
 -- A call, and what the journal makes of the number that it answers

@@ -12,7 +12,7 @@ use lib.Seq.{drop-cons}
 use borrow.Author.Tests.{ltb-false, lt-ltb}
 use Rattle.listener.specs.Lists.{bit, tally, firstIndex}
 use Rattle.listener.specs.Table.{isLive, isPending, freeSlot, holdsPeer, scanOf}
-use Rattle.listener.specs.Scan.{earliest, counted, seenWith}
+use Rattle.listener.specs.Scan.{firstPlace, countIf, seenWith}
 use Rattle.listener.specs.declared.table.Slot.{Slot}
 use Rattle.listener.specs.declared.table.Scan.{Scan}
 
@@ -26,7 +26,7 @@ module _ (p : Slot → Bool) where
   -- the first place where the test passes, from place i on, where `found` was found before
   pub firstFrom : ℕ → List Slot → ℕ → ℕ
   firstFrom i [] found = found
-  firstFrom i (s ∷ ss) found = firstFrom (suc i) ss (earliest found i (p s))
+  firstFrom i (s ∷ ss) found = firstFrom (suc i) ss (firstPlace found i (p s))
 
   -- a place that was found before i stays; where none was, the first from i on is it
   first-found : (i : ℕ) (ss : List Slot) (found : ℕ) → i + length ss ≡ 64 → found ≤ 64
@@ -51,7 +51,7 @@ module _ (p : Slot → Bool) where
 
   -- one slot further
   first-on : (ss : List Slot) (i found x : ℕ) → i < length ss → firstFrom i (drop i ss) found ≡ x
-      → firstFrom (i + 1) (drop (i + 1) ss) (earliest found i (p (getD ss i freeSlot))) ≡ x
+      → firstFrom (i + 1) (drop (i + 1) ss) (firstPlace found i (p (getD ss i freeSlot))) ≡ x
   unfolding firstFrom
   first-on ss i found x h e = rw add-one (rw (drop-cons ss i freeSlot h) at e)
 
@@ -59,19 +59,19 @@ module _ (p : Slot → Bool) where
   unfolding firstFrom
   first-end ss i found x h e = rw (drop-of-length-le ss h) at e
 
-  count-on : (ss : List Slot) (i n x : ℕ) → i < length ss → n + tally p (drop i ss) ≡ x → counted n (p (getD ss i freeSlot)) + tally p (drop (i + 1) ss) ≡ x
+  count-on : (ss : List Slot) (i n x : ℕ) → i < length ss → n + tally p (drop i ss) ≡ x → countIf n (p (getD ss i freeSlot)) + tally p (drop (i + 1) ss) ≡ x
   count-on ss i n x h e = rw add-one (go (p (getD ss i freeSlot)) (rw (drop-cons ss i freeSlot h) at e))
     where
-      go : (b : Bool) → n + (bit b + tally p (drop (suc i) ss)) ≡ x → counted n b + tally p (drop (suc i) ss) ≡ x
+      go : (b : Bool) → n + (bit b + tally p (drop (suc i) ss)) ≡ x → countIf n b + tally p (drop (suc i) ss) ≡ x
       go true k = omega arith
       go false k = omega arith
 
   count-end : (ss : List Slot) (i n x : ℕ) → length ss ≤ i → n + tally p (drop i ss) ≡ x → n ≡ x
   count-end ss i n x h e = omega (arith, ap (tally p) (drop-of-length-le ss h))
 
-counted-most : (n i : ℕ) (b : Bool) → n ≤ i → counted n b ≤ i + 1
-counted-most n i true h = omega arith
-counted-most n i false h = omega arith
+countIf-most : (n i : ℕ) (b : Bool) → n ≤ i → countIf n b ≤ i + 1
+countIf-most n i true h = omega arith
+countIf-most n i false h = omega arith
 
 module _ (t : ℕ) (b : List ℕ) (port : ℕ) (slots : List Slot) where
   abbrev vacant : Slot → Bool
@@ -97,7 +97,7 @@ module _ (t : ℕ) (b : List ℕ) (port : ℕ) (slots : List Slot) where
         place = first-on (holdsPeer t b port) slots i (seen .place) _ h (k .place);
         free = first-on vacant slots i (seen .free) _ h (k .free);
         pending = count-on pends slots i (seen .pending) _ h (k .pending);
-        few = counted-most (seen .pending) i (pends (getD slots i freeSlot)) (k .few);
+        few = countIf-most (seen .pending) i (pends (getD slots i freeSlot)) (k .few);
       }
 
   pub seen-end : (i : ℕ) (seen : Scan) → length slots ≤ i → Seen i seen → seen ≡ scanOf t b port slots

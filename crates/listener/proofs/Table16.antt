@@ -1,4 +1,4 @@
--- Document 01, "The table of sixteen", proved: the segment crate's rows, and the three that speak of a call. Assumes nothing.
+-- Document 01, "The table of sixteen", proved: rows 1 to 12 and 16 from the segment crate's, and the three that speak of a call. Assumes nothing.
 use Prim.Native.Nat.{ℕ, _+_, _≤_, _<_}
 use mathlib.Core.Path.{_≡_, refl, ap, _∙_}
 use mathlib.Core.Bool.{Bool, true, false, cond, not, _&&_, and-false}

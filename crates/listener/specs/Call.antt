@@ -12,7 +12,8 @@ use Rattle.listener.specs.declared.state.Settings.{Settings}
 use Rattle.listener.specs.declared.answer.Event.{Event}
 use Rattle.listener.specs.declared.answer.Event.the-variants.{Refused, FastOpen, Regular, Retransmission, Completed, WasReset, Done}
 
--- A call with its arguments. A segment has its source address, its bytes, our initial number and the output's length; a call by name has an address and a port.
+-- A call with its arguments, the time first. A segment has its source address, its bytes, our initial number and the output's length; a call by name has an
+-- address and a port, and a resend the output's length too.
 pub data Call : Type 0 where
   segment : ℕ → List ℕ → List ℕ → ℕ → ℕ → Call
   settings : ℕ → Settings → Call

@@ -117,7 +117,7 @@ rightBefore (aKey k) b o = rightUnder (keyExpansion k) b o
 unfoldable pub hasRight : Journal → List ℕ → List ℕ → Bool
 hasRight j src seg = rightUnder (keyExpansion (j .present)) (block src) (carriedBy seg) || rightBefore (j .previous) (block src) (carriedBy seg)
 
--- a new opening is early exactly if Fast Open is on, pending so far is below the limit and a counted option has a right cookie
+-- the three terms for an early opening: on, below the limit so far, a right cookie
 unfoldable pub opensEarly : Journal → List ℕ → List ℕ → Bool
 opensEarly j src seg = settingsOf j .on && (ltb (pendingOf j) (settingsOf j .limit) && hasRight j src seg)
 
@@ -132,9 +132,9 @@ opened false j src seg = with j (record { who = sender src seg; mark = newMark (
 
 -- One call
 
--- the time is set, and held entries that end at or before it are struck out
-abbrev pub turnedTo : ℕ → Journal → Journal
-turnedTo t j =
+-- the journal at a call's time: holds that have run out are gone
+abbrev pub atTime : ℕ → Journal → Journal
+atTime t j =
     record { time = t; settings = j .settings; present = j .present; previous = j .previous; entries = amend (kept t) (j .entries) }
 
 unfoldable pub segmentNoted : Journal → List ℕ → List ℕ → Kind → Journal
@@ -153,7 +153,7 @@ noted j (close t a p) = amended j (record { address = a; port = p }) struck
 
 -- a call and the number that it was answered: a refused one leaves the journal as it is
 unfoldable pub feed : Journal → Call → ℕ → Journal
-feed j c zero = noted (turnedTo (timeOf c) j) c
+feed j c zero = noted (atTime (timeOf c) j) c
 feed j c (suc n) = j
 
 -- What it says of a call's answer: the verdict, the accepted count and the accepted part, that many bytes from the payload's start.
@@ -162,10 +162,10 @@ pub record Said : Type 0 where
   pub accepted : ℕ
   pub part : List ℕ
 
-abbrev pub silence : Said
-silence = record { verdict = unjudged; accepted = 0; part = [] }
+abbrev pub saysNothing : Said
+saysNothing = record { verdict = unjudged; accepted = 0; part = [] }
 
--- an early one's count is the smaller of payload and early room, any other's 0
+-- only an early one accepts bytes, up to the early room
 abbrev pub saysNew : Bool → Journal → List ℕ → Said
 saysNew true j seg =
     let n = min (length (payloadOf seg)) (settingsOf j .room) in
@@ -178,18 +178,18 @@ saysOpening false j src seg = saysNew (opensEarly j src seg) j seg
 
 unfoldable pub saysSegment : Journal → List ℕ → List ℕ → Kind → Said
 saysSegment j src seg Syn = saysOpening (has (sender src seg) (j .entries)) j src seg
-saysSegment j src seg Ack = silence
-saysSegment j src seg Rst = silence
-saysSegment j src seg Other = silence
+saysSegment j src seg Ack = saysNothing
+saysSegment j src seg Rst = saysNothing
+saysSegment j src seg Other = saysNothing
 
 unfoldable pub saysDone : Journal → Call → Said
 saysDone j (segment t src seg iss room) = saysSegment j src seg (kindOf (fieldsOf seg .flags))
-saysDone j (settings t g) = silence
-saysDone j (key t k) = silence
-saysDone j (abandon t a p) = silence
-saysDone j (resend t a p room) = silence
-saysDone j (close t a p) = silence
+saysDone j (settings t g) = saysNothing
+saysDone j (key t k) = saysNothing
+saysDone j (abandon t a p) = saysNothing
+saysDone j (resend t a p room) = saysNothing
+saysDone j (close t a p) = saysNothing
 
 unfoldable pub says : Journal → Call → ℕ → Said
-says j c zero = saysDone (turnedTo (timeOf c) j) c
-says j c (suc n) = silence
+says j c zero = saysDone (atTime (timeOf c) j) c
+says j c (suc n) = saysNothing

@@ -11,7 +11,7 @@ use Rattle.listener.specs.declared.table.Status.the-variants.{Free, SynR
 use Rattle.listener.specs.declared.table.Slot.{Slot}
 use Rattle.listener.specs.declared.table.Scan.{Scan}
 
--- A status is 01's free, plain, early with its accepted count, held until a time, or open. A held slot whose end is at or before the time counts as free.
+-- The statuses are, in 01's words: free, plain, early, held, open. A slot is live unless it is free or its hold has run out by the time.
 abbrev pub isLive : ℕ → Status → Bool
 isLive t Free = false
 isLive t SynReceived = true
@@ -86,7 +86,7 @@ freePlace t slots = firstIndex (λ s. not (isLive t (s .status))) slots
 abbrev pub pendingAt : ℕ → List Slot → ℕ
 pendingAt t slots = tally (λ s. isPending t (s .status)) slots
 
--- In one scan of the table: the place of the peer with this block and port among the slots that are live at the time, the lowest free place (the number of
--- slots where there is none), and pending.
+-- In one scan of the table: the place of the peer with this block and port among the slots that are live at the time, the lowest free place (each the
+-- number of slots where there is none), and pending.
 abbrev pub scanOf : ℕ → List ℕ → ℕ → List Slot → Scan
 scanOf t b port slots = record { place = firstIndex (holdsPeer t b port) slots; free = freePlace t slots; pending = pendingAt t slots }

@@ -1,4 +1,4 @@
--- The letter's worst day, in TCP's terms: two openings from one source address, with one right cookie and one initial sequence number, from two ports.
+-- The customer's letter, its worst day, in TCP's terms: two openings from one source address, with one right cookie and one initial sequence number, from two ports.
 -- Assumes nothing.
 use Prim.Native.Nat.{ℕ, _+_, _≤_}
 use mathlib.Core.Path.{_≡_}
@@ -30,7 +30,7 @@ pub record Arrival : Type 0 where
 abbrev pub callOf : List ℕ → Arrival → Call
 callOf src a = segment (a .time) src (a .seg) (a .iss) (a .room)
 
--- an opening that no check before its kind refuses: the listener was started, and the clock, the address, the output, shape, checksum and port are right
+-- an opening that no check before its kind refuses: the listener was started, and the time, the address, the output, shape, checksum and port are right
 pub record Opens (l : Listener) (src : List ℕ) (a : Arrival) : Type 0 where
   pub clear : refusal (wireChecks (l .home) (isUntimely (l .clock) (a .time)) src (a .seg) (a .room)) ≡ Clear
   pub syn : kindOf (fieldsOf (a .seg) .flags) ≡ Syn

@@ -1,4 +1,5 @@
--- What a call's answer depends on: the listener as the call sees it, at its time and for its peer. No answer says in which place a slot stands.
+-- Document 01, "Listener": what a call's answer depends on, the listener as the call sees it, at its time and for its peer. No answer says in which place a
+-- slot stands.
 -- Assumes nothing.
 use Prim.Native.Nat.{ℕ, _^_}
 use mathlib.Core.List.{List}

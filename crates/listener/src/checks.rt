@@ -127,7 +127,8 @@ fn expected_of(s: Slot) -> u32
     next_after(s.irs, accepted_with(status))
 }
 
-fn is_completion(s: Slot, h: Header) -> bool
+// Whether a completion's numbers are admitted, for this slot.
+fn admits_completion(s: Slot, h: Header) -> bool
     ensures { λ r. ⌜ r ≡ completes s h ⌝ }
 {
     if !in_window(expected_of(s), h.seq) {
@@ -136,7 +137,8 @@ fn is_completion(s: Slot, h: Header) -> bool
     h.ack == next_after(s.iss, 0)
 }
 
-fn is_reset(s: Slot, h: Header) -> bool
+// Whether a reset's number is admitted, for this slot.
+fn admits_reset(s: Slot, h: Header) -> bool
     ensures { λ r. ⌜ r ≡ resets s h ⌝ }
 {
     h.seq == expected_of(s)
@@ -181,8 +183,8 @@ pub(crate) fn check_kind(v: View, h: Header, kind: Kind) -> Check
     let slot = v.slot;
     match kind {
         Kind::Syn => check_syn(v, h),
-        Kind::Ack => check_sequence(slot, is_completion(slot, h)),
-        Kind::Rst => check_sequence(slot, is_reset(slot, h)),
+        Kind::Ack => check_sequence(slot, admits_completion(slot, h)),
+        Kind::Rst => check_sequence(slot, admits_reset(slot, h)),
         Kind::Other => Check::Refused(Refusal::Flags),
     }
 }

@@ -49,8 +49,8 @@ fn checked(right: bool, fresh: bool, cookie: [u8; 8]) -> OptionCheck
     }
 }
 
-// A cookie that was given is right under the present key, or under the previous one, and is then replaced. The previous key's block is
-// computed only where the present one's cookie did not match.
+// Checks a cookie that was given: it is right under the present key or, if there is one, under the previous key; any but the present key's
+// gets a fresh one. The second block is computed only where the first did not settle it.
 fn check_cookie(keys: Keys, b: [u8; 16], given: &[u8]) -> OptionCheck
     ensures { λ r. ⌜ r ≡ cookieCheck keys b (now (given .entry)) ⌝ }
 {

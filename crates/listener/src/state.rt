@@ -26,7 +26,7 @@ pub struct InForce {
     pub mss: u16,
 }
 
-// Round keys of the present key, and of the previous one where there is one.
+// Round keys of the present key and of the previous one; `rotated` says whether there is a previous one.
 pub struct Keys {
     pub present: [u8; 176],
     pub previous: [u8; 176],

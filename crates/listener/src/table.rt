@@ -6,7 +6,7 @@ ghost use Prim.Native.Nat.{_<_};
 ghost use lib.Dec.{eqb};
 ghost use Rattle.listener.specs.Lists.{sameBytes};
 ghost use Rattle.listener.specs.Table.{isLive, isPending, isWaiting, isEstablished, isFree, acceptedWith, afterReset, withStatus, holdsPeer, scanOf};
-ghost use Rattle.listener.specs.Scan.{earliest, counted, seenWith};
+ghost use Rattle.listener.specs.Scan.{firstPlace, countIf, seenWith};
 
 // Document 01's free, plain, early with its accepted count, held until a time, and open.
 pub enum Status {
@@ -26,7 +26,7 @@ pub struct Slot {
     pub status: Status,
 }
 
-// What one scan finds: the peer's place, the lowest free place (64 is none), and how many slots are pending.
+// What one scan finds: the peer's place and the lowest free place, each 64 where there is none, and how many slots are pending.
 pub struct Scan {
     pub place: usize,
     pub free: usize,
@@ -159,8 +159,8 @@ fn is_named(time: u64, b: [u8; 16], port: u16, s: Slot) -> bool
 }
 
 // The first place of those found so far and this one, if the test passed here.
-fn earlier(found: usize, i: usize, here: bool) -> usize
-    ensures { λ r. ⌜ r ≡ earliest found i here ⌝ }
+fn first_place(found: usize, i: usize, here: bool) -> usize
+    ensures { λ r. ⌜ r ≡ firstPlace found i here ⌝ }
 {
     if found < 64 {
         return found;
@@ -168,9 +168,9 @@ fn earlier(found: usize, i: usize, here: bool) -> usize
     if here { i } else { found }
 }
 
-fn count(n: u32, here: bool) -> u32
+fn count_if(n: u32, here: bool) -> u32
     requires { ⌜ n < 64 ⌝ }
-    ensures { λ r. ⌜ r ≡ counted n here ⌝ }
+    ensures { λ r. ⌜ r ≡ countIf n here ⌝ }
 {
     if here { n + 1 } else { n }
 }
@@ -182,9 +182,9 @@ fn look(seen: Scan, i: usize, time: u64, b: [u8; 16], port: u16, s: Slot) -> Sca
 {
     let status = s.status;
     Scan {
-        place: earlier(seen.place, i, is_named(time, b, port, s)),
-        free: earlier(seen.free, i, !is_live(time, status)),
-        pending: count(seen.pending, is_pending(time, status)),
+        place: first_place(seen.place, i, is_named(time, b, port, s)),
+        free: first_place(seen.free, i, !is_live(time, status)),
+        pending: count_if(seen.pending, is_pending(time, status)),
     }
 }
 

@@ -13,8 +13,8 @@ check-syn-requires c κs = search needs
 enum-told-2 : tie.Need-enum-told-2
 enum-told-2 c = search needs
 
-is-completion-requires : tie.Need-is-completion-requires
-is-completion-requires c κs = search needs
+admits-completion-requires : tie.Need-admits-completion-requires
+admits-completion-requires c κs = search needs
 
 check-sequence-requires : tie.Need-check-sequence-requires
 check-sequence-requires c κs = search needs
@@ -22,8 +22,8 @@ check-sequence-requires c κs = search needs
 enum-told-3 : tie.Need-enum-told-3
 enum-told-3 c = search needs
 
-is-reset-requires : tie.Need-is-reset-requires
-is-reset-requires c κs = search needs
+admits-reset-requires : tie.Need-admits-reset-requires
+admits-reset-requires c κs = search needs
 
 check-sequence-requires-2 : tie.Need-check-sequence-requires-2
 check-sequence-requires-2 c κs = search needs
@@ -35,10 +35,10 @@ returns : tie.Need-returns
 returns c = simp (c .before .enum-told .given .1) (c .check-syn .ensures)
 
 returns-2 : tie.Need-returns-2
-returns-2 c = simp (c .before .before .enum-told2 .given .1) (rw (c .before .is-completion .ensures) at (c .check-sequence .ensures))
+returns-2 c = simp (c .before .before .enum-told2 .given .1) (rw (c .before .admits-completion .ensures) at (c .check-sequence .ensures))
 
 returns-3 : tie.Need-returns-3
-returns-3 c = simp (c .before .before .enum-told3 .given .1) (rw (c .before .is-reset .ensures) at (c .check-sequence2 .ensures))
+returns-3 c = simp (c .before .before .enum-told3 .given .1) (rw (c .before .admits-reset .ensures) at (c .check-sequence2 .ensures))
 
 returns-4 : tie.Need-returns-4
 returns-4 c = simp (c .enum-told4 .given .1)
@@ -50,10 +50,10 @@ check-kind-spec =
     enum-told
     check-syn-requires
     enum-told-2
-    is-completion-requires
+    admits-completion-requires
     check-sequence-requires
     enum-told-3
-    is-reset-requires
+    admits-reset-requires
     check-sequence-requires-2
     enum-told-4
     returns

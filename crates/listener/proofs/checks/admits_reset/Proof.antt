@@ -1,12 +1,12 @@
--- `listener::checks::is_reset` meets its contract: the expected number.
+-- `listener::checks::admits_reset` meets its contract: the expected number.
 -- Assumes nothing.
 use mathlib.Core.Path.{ap}
 use Prim.Native.Nat.{ℕ}
 use lib.Dec.{eqb}
 use Rattle.listener.specs.Refusals.{resets}
 use borrow.Author.Needs.{needs}
-use Rattle.listener.proofs.checks.is_reset.Statement.{statement}
-use Rattle.listener.proofs.checks.is_reset.Tie as tie
+use Rattle.listener.proofs.checks.admits_reset.Statement.{statement}
+use Rattle.listener.proofs.checks.admits_reset.Tie as tie
 
 expected-of-requires : tie.Need-expected-of-requires
 expected-of-requires c κs = search needs
@@ -15,5 +15,5 @@ returns : tie.Need-returns
 unfolding resets
 returns c = ap (λ (n : ℕ). eqb (c .before .before .args .h .seq) n) (c .before .expected-of .ensures)
 
-pub is-reset-spec : {M : Type 1} → statement M
-is-reset-spec = tie.close (tie.spec expected-of-requires returns)
+pub admits-reset-spec : {M : Type 1} → statement M
+admits-reset-spec = tie.close (tie.spec expected-of-requires returns)

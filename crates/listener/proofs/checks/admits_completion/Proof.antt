@@ -1,10 +1,10 @@
--- `listener::checks::is_completion` meets its contract: the window, then the acknowledgement.
+-- `listener::checks::admits_completion` meets its contract: the window, then the acknowledgement.
 -- Assumes nothing.
 use borrow.Author.Tests.{not-true, not-false}
 use Rattle.listener.proofs.Parts.{not-completed, completed}
 use borrow.Author.Needs.{needs}
-use Rattle.listener.proofs.checks.is_completion.Statement.{statement}
-use Rattle.listener.proofs.checks.is_completion.Tie as tie
+use Rattle.listener.proofs.checks.admits_completion.Statement.{statement}
+use Rattle.listener.proofs.checks.admits_completion.Tie as tie
 
 expected-of-requires : tie.Need-expected-of-requires
 expected-of-requires c κs = search needs
@@ -21,7 +21,7 @@ next-after-requires c κs = search needs
 returns-2 : tie.Need-returns-2
 returns-2 c = completed _ _ (c .before .before .before .before .expected-of .ensures) (c .before .before .before .in-window .ensures) (not-false _ (c .before .before .if1 .left)) (c .before .next-after .ensures)
 
-pub is-completion-spec : {M : Type 1} → statement M
-is-completion-spec =
+pub admits-completion-spec : {M : Type 1} → statement M
+admits-completion-spec =
     tie.close
     (tie.spec expected-of-requires in-window-requires returns next-after-requires returns-2)

@@ -1,8 +1,8 @@
--- `listener::table::earlier` meets its contract: by the two tests.
+-- `listener::table::first_place` meets its contract: by the two tests.
 -- Assumes nothing.
 use borrow.Author.Tests.{lt-ltb, le-ltb}
-use Rattle.listener.proofs.table.earlier.Statement.{statement}
-use Rattle.listener.proofs.table.earlier.Tie as tie
+use Rattle.listener.proofs.table.first_place.Statement.{statement}
+use Rattle.listener.proofs.table.first_place.Tie as tie
 
 returns : tie.Need-returns
 returns c = simp (lt-ltb _ _ (c .if1 .taken))
@@ -13,5 +13,5 @@ returns-2 c = simp (le-ltb _ _ (c .before .if1 .left), c .if2 .taken)
 returns-3 : tie.Need-returns-3
 returns-3 c = simp (le-ltb _ _ (c .before .if1 .left), c .if2 .left)
 
-pub earlier-spec : {M : Type 1} → statement M
-earlier-spec = tie.close (tie.spec returns returns-2 returns-3)
+pub first-place-spec : {M : Type 1} → statement M
+first-place-spec = tie.close (tie.spec returns returns-2 returns-3)
