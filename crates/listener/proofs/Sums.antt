@@ -86,14 +86,6 @@ module _ {A : Type 0} where
       go true e k r = absurd (not-suc-le-zero k)
       go false e k r = omega (arith, ap bit e, r (le-of-suc-le-suc k))
 
-  pub first-most : (p : A → Bool) (xs : List A) → firstIndex p xs ≤ length xs
-  first-most p [] = omega arith
-  first-most p (x ∷ xs) = go (p x) (first-most p xs)
-    where
-      go : (b : Bool) → firstIndex p xs ≤ length xs → cond b 0 (suc (firstIndex p xs)) ≤ suc (length xs)
-      go true k = omega arith
-      go false k = omega arith
-
   -- Amendments
 
   amend-append : (f : A → List A) (xs ys : List A) → amend f (xs ++ ys) ≡ amend f xs ++ amend f ys
