@@ -7,7 +7,7 @@ use Rattle.segment.specs.Header.{optionArea}
 use Rattle.segment.specs.Options.{optionsOf}
 use Rattle.segment.specs.declared.header.Header.{Header}
 use Rattle.segment.specs.declared.options.Options.{Options}
-use Rattle.listener.specs.Lists.{sameBytes}
+use Rattle.endpoint.specs.Lists.{sameBytes}
 use Rattle.listener.specs.Cookie.{Carried, nothing, request, cookie, found, carriedBy, counts, cookieUnder, rightUnder, right, cookieCheck}
 use Rattle.listener.specs.Step.{cookiesRun, isEarly, isFresh, accepts, newEvent, slotAfter, freshWith}
 use Rattle.listener.specs.declared.state.Keys.{Keys}

@@ -14,18 +14,18 @@ use Rattle.segment.specs.declared.header.Kind.{Kind}
 use Rattle.segment.specs.declared.header.Kind.the-variants.{Syn, Rst, Ack, Other}
 use Rattle.segment.proofs.Exchange.{answerLength, answer-bytes}
 use Rattle.segment.proofs.Family.{family-back, right-family}
-use Rattle.listener.specs.Address.{size, isAddress, block}
+use Rattle.endpoint.specs.Address.{size, isAddress, block}
+use Rattle.endpoint.specs.declared.address.Family.{Family}
+use Rattle.endpoint.specs.declared.address.Family.the-variants.{V4, V6}
+use Rattle.endpoint.proofs.Clear.{Passed, every-check}
 use Rattle.listener.specs.Cookie.{cookieUnder}
 use Rattle.listener.specs.Call.{Call, segment, resend, sender, opening, reset, completion, none, kindOfEvent, SegmentKind}
 use Rattle.listener.specs.View.{ownAddress, view, viewOf}
 use Rattle.listener.specs.Refusals.{checks, judged}
 use Rattle.listener.specs.Step.{segmentEvent, isAnswered, freshWith, answerFrom, answerTo, slotAfter, step}
-use Rattle.listener.specs.declared.address.Family.{Family}
-use Rattle.listener.specs.declared.address.Family.the-variants.{V4, V6}
 use Rattle.listener.specs.declared.table.Slot.{Slot}
 use Rattle.listener.specs.declared.state.View.{View}
 use Rattle.listener.specs.declared.state.Listener.{Listener}
-use Rattle.listener.proofs.Clear.{Passed, every-check}
 use Rattle.listener.proofs.Cookies.{cookie-eight}
 use Rattle.listener.proofs.Events.{opening-event}
 use Rattle.listener.proofs.Judging.{step-done}

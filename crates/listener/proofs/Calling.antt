@@ -1,12 +1,12 @@
 -- What each call answers, refused and done, from what its checks come to. Assumes nothing.
-use Prim.Native.Nat.{ℕ, _^_, _≤_}
+use Prim.Native.Nat.{ℕ, _≤_}
 use mathlib.Core.Path.{_≡_, refl, sym, ap, _∙_}
 use mathlib.Core.Bool.{Bool, true, false, cond, not, false≢true}
 use mathlib.Core.List.{List, [], _++_}
 use native.Mathlib.Omega.{arith}
-use lib.Dec.{leb, ltb}
+use lib.Dec.{leb}
 use lib.ListN.{length}
-use borrow.Author.Tests.{eq-eqb, ne-eqb, eqb-true, leb-true, ltb-false, not-false}
+use borrow.Author.Tests.{eq-eqb, ne-eqb, leb-true, not-false}
 use Rattle.segment.specs.Refusal.{refusal}
 use Rattle.segment.specs.Header.{fieldsOf, kindOf}
 use Rattle.segment.specs.Write.{answerBytes, overwrite}
@@ -16,17 +16,19 @@ use Rattle.segment.specs.declared.refusal.Check.{Check}
 use Rattle.segment.specs.declared.refusal.Check.the-variants.{Clear, Refused}
 use Rattle.segment.specs.declared.header.Header.{Header}
 use Rattle.segment.specs.declared.header.Kind.{Kind}
-use Rattle.segment.proofs.Bools.{and-true, or-false}
+use Rattle.segment.proofs.Bools.{and-true}
 use Rattle.segment.proofs.Exchange.{answer-without}
-use Rattle.listener.specs.Address.{Peer, isAddress, block}
+use Rattle.endpoint.specs.Address.{Peer, block}
+use Rattle.endpoint.specs.Checks.{isUntimely, timely, addressed}
+use Rattle.endpoint.proofs.Blocks.{family-short}
+use Rattle.endpoint.proofs.Clear.{every-check}
+use Rattle.endpoint.proofs.Chain.{stopped, passed}
 use Rattle.listener.specs.Cookie.{cookieUnder}
 use Rattle.listener.specs.Table.{isWaiting, withStatus, scanOf}
 use Rattle.listener.specs.Call.{Call, segment, settings, key, abandon, resend, close, sender}
-use Rattle.listener.specs.View.{isUntimely, ownAddress, viewFrom, view}
-use Rattle.listener.specs.Refusals.{inRange, isKey, isReleasable, releaseOf, timely, addressed, roomy, kindChecks, wireChecks, judged, received}
+use Rattle.listener.specs.View.{ownAddress, viewFrom, view}
+use Rattle.listener.specs.Refusals.{inRange, isKey, isReleasable, releaseOf, roomy, kindChecks, wireChecks, judged, received}
 use Rattle.listener.specs.Step.{segmentEvent, slotAfter, freshWith, answerFrom, answerTo, isAnswered, segmentOutput, segmentAfter, moved, put, freed, inForce, withKey, after, step, outputOf}
-use Rattle.listener.specs.declared.address.Family.{Family}
-use Rattle.listener.specs.declared.address.Family.the-variants.{V4, V6}
 use Rattle.listener.specs.declared.state.Settings.{Settings}
 use Rattle.listener.specs.declared.state.Home.{Home}
 use Rattle.listener.specs.declared.state.View.{View}
@@ -39,8 +41,7 @@ use Rattle.listener.specs.declared.checks.Received.the-variants.{Dropped
 use Rattle.listener.specs.declared.table.Status.the-variants.{Free}
 use Rattle.listener.specs.declared.table.Slot.{Slot}
 use Rattle.listener.specs.declared.table.Scan.{Scan}
-use Rattle.listener.proofs.Judging.{stopped, passed, judged-settings, judged-key, judged-release, judged-resend, judged-segment, step-refused, step-done, output-refused, output-done}
-use Rattle.listener.proofs.Clear.{every-check}
+use Rattle.listener.proofs.Judging.{judged-settings, judged-key, judged-release, judged-resend, judged-segment, step-refused, step-done, output-refused, output-done}
 use Rattle.listener.proofs.Acting.{Acts}
 
 abbrev pub refusedWith : Listener → Refusal → Outcome
@@ -57,7 +58,7 @@ any-cookie own a v s false c d room e = answer-without own a (answerFrom (v .hom
 
 module _ (l : Listener) (t : ℕ) where
   abbrev Timely : Check
-  Timely = refusal (timely (l .home) (isUntimely (l .clock) t))
+  Timely = refusal (timely (l .home .started) (isUntimely (l .clock) t))
 
   -- Settings
 
@@ -101,7 +102,7 @@ module _ (l : Listener) (t : ℕ) where
 
   module _ (a : List ℕ) (p : ℕ) where
     abbrev Named : Check
-    Named = refusal (timely (l .home) (isUntimely (l .clock) t) ++ addressed (l .home) a)
+    Named = refusal (timely (l .home .started) (isUntimely (l .clock) t) ++ addressed (l .home .family) a)
 
     abbrev peer : Peer
     peer = record { address = a; port = p }
@@ -128,7 +129,7 @@ module _ (l : Listener) (t : ℕ) where
 
     module _ (room : ℕ) where
       abbrev Roomy : Check
-      Roomy = refusal (timely (l .home) (isUntimely (l .clock) t) ++ addressed (l .home) a ++ roomy room)
+      Roomy = refusal (timely (l .home .started) (isUntimely (l .clock) t) ++ addressed (l .home .family) a ++ roomy room)
 
       abbrev v : View
       v = view l t peer
@@ -290,27 +291,16 @@ pub was-read : (c : Check) (h : Header) {x : Header} → received c h ≡ Read x
 was-read Clear h e = (refl, let q = e in cc)
 was-read (Refused r) h e = absurd (let z : _≡_ {A = ℕ} 0 1 = cc in omega arith)
 
--- an address of a family has at most 16 bytes
-family-short : (f : Family) (a : List ℕ) → not (isAddress f a) ≡ false → length a ≤ 16
-family-short V4 a e = omega (arith, eqb-true (length a) 4 (not-false _ e))
-family-short V6 a e = omega (arith, eqb-true (length a) 16 (not-false _ e))
-
+-- what the checks of a clear call say of its address and time
 module _ (h : Home) (untimely : Bool) (a : List ℕ) where
-  pub named-short : refusal (timely h untimely ++ addressed h a) ≡ Clear → length a ≤ 16
-  named-short e = family-short (h .family) a (every-check (timely h untimely ++ addressed h a) e .1 .1 .0)
-
-  pub roomy-short : (room : ℕ) → refusal (timely h untimely ++ addressed h a ++ roomy room) ≡ Clear → length a ≤ 16
-  roomy-short room e = family-short (h .family) a (every-check (timely h untimely ++ addressed h a ++ roomy room) e .1 .1 .0)
+  pub roomy-short : (room : ℕ) → refusal (timely (h .started) untimely ++ addressed (h .family) a ++ roomy room) ≡ Clear → length a ≤ 16
+  roomy-short room e = family-short (h .family) a (not-false _ (every-check (timely (h .started) untimely ++ addressed (h .family) a ++ roomy room) e .1 .1 .0))
 
   pub wired-short : (seg : List ℕ) (room : ℕ) → refusal (wireChecks h untimely a seg room) ≡ Clear → length a ≤ 16
-  wired-short seg room e = family-short (h .family) a (every-check (wireChecks h untimely a seg room) e .1 .1 .0)
+  wired-short seg room e = family-short (h .family) a (not-false _ (every-check (wireChecks h untimely a seg room) e .1 .1 .0))
 
   pub wired-timely : (seg : List ℕ) (room : ℕ) → refusal (wireChecks h untimely a seg room) ≡ Clear → untimely ≡ false
   wired-timely seg room e = every-check (wireChecks h untimely a seg room) e .1 .0
-
--- a time that is accepted is at most 2^48
-pub time-most : (clock t : ℕ) → isUntimely clock t ≡ false → t ≤ 2 ^ 48
-time-most clock t e = ltb-false (2 ^ 48) t (or-false (ltb t clock) (ltb (2 ^ 48) t) e .1)
 
 -- settings in range have an MSS of two bytes
 pub mss-most : (g : Settings) → inRange g ≡ true → g .mss ≤ 1460

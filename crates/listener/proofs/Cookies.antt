@@ -1,25 +1,15 @@
--- When a cookie is right, as an equation with FIPS 197's definition: the listener and the journal share it. Assumes nothing.
-use Prim.Native.Nat.{ℕ}
-use mathlib.Core.Path.{_≡_, ap}
-use mathlib.Core.Bool.{true, false, false≢true}
-use mathlib.Core.List.{List, _++_, append-nil}
+-- When a cookie is right, as an equation with FIPS 197's definition: the listener and the journal share it. And its bytes one by one. Assumes nothing.
+use Prim.Native.Nat.{ℕ, _≤_}
+use mathlib.Core.Path.{_≡_, refl, ap}
+use mathlib.Core.Bool.{true, false≢true}
+use mathlib.Core.List.{List, [], _∷_}
 use native.Mathlib.Omega.{arith}
-use lib.ListN.{length, take, replicate}
+use lib.ListN.{length, take, getD}
 use lib.Seq.{length-take-le}
 use Rattle.cipher.specs.Cipher.{cipher}
 use Rattle.cipher.proofs.Rounds.{block-length}
-use Rattle.listener.specs.Address.{block}
+use Rattle.endpoint.proofs.Names.{same-bytes-eq, same-bytes-refl}
 use Rattle.listener.specs.Cookie.{Carried, nothing, request, cookie, cookieUnder, rightUnder}
-use Rattle.listener.proofs.Names.{same-bytes-eq, same-bytes-refl}
-
--- the block of an IPv4 address, and of an IPv6 address
-pub block-four : (a : List ℕ) → length a ≡ 4 → block a ≡ a ++ replicate 12 0
-unfolding block
-block-four a e = rw e
-
-pub block-sixteen : (a : List ℕ) → length a ≡ 16 → block a ≡ a
-unfolding block
-block-sixteen a e = rw e (append-nil a)
 
 -- a cookie has 8 bytes
 pub cookie-eight : (w b : List ℕ) → length (cookieUnder w b) ≡ 8
@@ -41,3 +31,22 @@ unfolding rightUnder
 right-carried w b nothing e = absurd (false≢true e)
 right-carried w b request e = absurd (false≢true e)
 right-carried w b (cookie c) e = ap (λ (x : List ℕ). cookie x) (same-bytes-eq c (cookieUnder w b) e)
+
+-- the first eight of some bytes
+eight : (xs : List ℕ) → 8 ≤ length xs
+    → getD xs 0 0 ∷ getD xs 1 0 ∷ getD xs 2 0 ∷ getD xs 3 0 ∷ getD xs 4 0 ∷ getD xs 5 0 ∷ getD xs 6 0 ∷ getD xs 7 0 ∷ [] ≡ take 8 xs
+eight [] h = absurd (omega arith)
+eight (a ∷ []) h = absurd (omega arith)
+eight (a ∷ b ∷ []) h = absurd (omega arith)
+eight (a ∷ b ∷ c ∷ []) h = absurd (omega arith)
+eight (a ∷ b ∷ c ∷ d ∷ []) h = absurd (omega arith)
+eight (a ∷ b ∷ c ∷ d ∷ e ∷ []) h = absurd (omega arith)
+eight (a ∷ b ∷ c ∷ d ∷ e ∷ f ∷ []) h = absurd (omega arith)
+eight (a ∷ b ∷ c ∷ d ∷ e ∷ f ∷ g ∷ []) h = absurd (omega arith)
+eight (a ∷ b ∷ c ∷ d ∷ e ∷ f ∷ g ∷ i ∷ xs) h = refl
+
+-- the first eight bytes of an encrypted block
+pub first-eight : (w b : List ℕ)
+    → let c = cipher w b in
+    getD c 0 0 ∷ getD c 1 0 ∷ getD c 2 0 ∷ getD c 3 0 ∷ getD c 4 0 ∷ getD c 5 0 ∷ getD c 6 0 ∷ getD c 7 0 ∷ [] ≡ take 8 c
+first-eight w b = eight (cipher w b) (omega (arith, block-length w b))

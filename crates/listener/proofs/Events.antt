@@ -6,7 +6,7 @@ use mathlib.Core.List.{List}
 use Rattle.segment.specs.Header.{fieldsOf, kindOf}
 use Rattle.segment.specs.declared.header.Kind.{Kind}
 use Rattle.segment.specs.declared.header.Kind.the-variants.{Syn, Rst, Ack, Other}
-use Rattle.listener.specs.Address.{block}
+use Rattle.endpoint.specs.Address.{block}
 use Rattle.listener.specs.Call.{Call, segment, settings, key, abandon, resend, close, numberOfEvent}
 use Rattle.listener.specs.View.{known}
 use Rattle.listener.specs.Step.{accepts, isEarly, newEvent, openingEvent, segmentEvent, doneEvent}

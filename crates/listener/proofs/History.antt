@@ -18,19 +18,23 @@ use Rattle.segment.specs.declared.header.Kind.{Kind}
 use Rattle.segment.specs.declared.header.Kind.the-variants.{Syn, Rst, Ack, Other}
 use Rattle.segment.proofs.Bools.{or-false}
 use Rattle.segment.proofs.Numbers as numbers
-use Rattle.listener.specs.Lists.{bit, sum, tally, amend}
-use Rattle.listener.specs.Address.{Peer, size, block}
+use Rattle.endpoint.specs.Lists.{bit, sum, tally, amend}
+use Rattle.endpoint.specs.Address.{Peer, size, block, familyOf}
+use Rattle.endpoint.specs.Checks.{isUntimely, timely, addressed}
+use Rattle.endpoint.specs.declared.address.Family.{Family}
+use Rattle.endpoint.proofs.Names.{one-test, short}
+use Rattle.endpoint.proofs.Blocks.{zero-block}
+use Rattle.endpoint.proofs.Sums.{sum-zero, some-passes, first-passes, none-passes, All, all-set, all-at, all-replicate, sum-le-all}
+use Rattle.endpoint.proofs.Clear.{Passed, every-check}
 use Rattle.listener.specs.Cookie.{Carried, carriedBy, rightUnder, right}
 use Rattle.listener.specs.Table.{isLive, isWaiting, isEstablished, isFree, afterReset, freeSlot, newSlot, withStatus, holdsPeer, pendingAt}
 use Rattle.listener.specs.Call.{Call, segment, settings, key, abandon, resend, close, sender, timeOf, numberOfEvent, verdictOf, acceptedOf, acceptedPart, early}
-use Rattle.listener.specs.View.{isUntimely, known, scanFor, view, viewOf}
-use Rattle.listener.specs.Refusals.{timely, addressed, kindChecks, checks, judged}
+use Rattle.listener.specs.View.{known, scanFor, view, viewOf}
+use Rattle.listener.specs.Refusals.{kindChecks, checks, judged}
 use Rattle.listener.specs.Step as steps
-use Rattle.listener.specs.Step.{familyOf, freshListener, startChecks, startedBy, startOf, newEvent, openingEvent, segmentEvent, doneEvent, slotAfter, moved, put, segmentAfter, freed, inForce, after, outcomeOf, step, pendingNumber}
+use Rattle.listener.specs.Step.{freshListener, startChecks, startedBy, startOf, newEvent, openingEvent, segmentEvent, doneEvent, slotAfter, moved, put, segmentAfter, freed, inForce, after, outcomeOf, step, pendingNumber}
 use Rattle.listener.specs.Journal.{Mark, markPlain, markEarly, markOpen, markHeld, Entry, PreviousKey, noKey, aKey, Journal, begun, pendingOf, named, has, kept, only, struck, completed, resetMark, wasReset, with, amended, rightBefore, hasRight, opensEarly, newMark, opened, atTime, segmentNoted, noted, feed, Said, saysNew, saysOpening, saysSegment, saysDone, says}
 use Rattle.listener.specs.Demand3.{segmentOf, answerSays, listenerAfter, answers, numbered, journalAfter, sayings, Demand3}
-use Rattle.listener.specs.declared.address.Family.{Family}
-use Rattle.listener.specs.declared.address.Family.the-variants.{V4, V6}
 use Rattle.listener.specs.declared.table.Status.{Status}
 use Rattle.listener.specs.declared.table.Status.the-variants.{Free, SynReceived, FastOpen, ResetHeld, Established}
 use Rattle.listener.specs.declared.table.Slot.{Slot}
@@ -38,10 +42,7 @@ use Rattle.listener.specs.declared.state.Keys.{Keys}
 use Rattle.listener.specs.declared.state.Listener.{Listener}
 use Rattle.listener.specs.declared.answer.Event.{Event}
 use Rattle.listener.specs.declared.answer.Event.the-variants as events
-use Rattle.listener.proofs.Sums.{sum-zero, some-passes, first-passes, none-passes, All, all-set, all-at, all-replicate, sum-le-all}
-use Rattle.listener.proofs.Names.{one-test, short}
 use Rattle.listener.proofs.Match.{nameOf, entryFor, entryIn, by-entry, stands, Fits, holdsPeer-stands, Thins, Match, stands-tally, pending-same, match-add, Settled, settled, turned-on, pending-settled, settled-amend}
-use Rattle.listener.proofs.Clear.{Passed, every-check}
 use Rattle.listener.proofs.Events.{done-number}
 
 -- The journal beside a listener
@@ -307,7 +308,7 @@ module _ (l : Listener) (j : Journal) (t : ℕ) (a : Agrees l j) (forward : l .c
 released : (l : Listener) (j : Journal) (t : ℕ) → Agrees l j → (b : List ℕ) (port : ℕ) (q : Status → Bool) → q Free ≡ false
     → let p : Peer = record { address = b; port = port } in
     let v = view l t p in
-    Passed (timely (v .home) (v .untimely) ++ addressed (v .home) b ++ ((NoConnection, not (q (v .slot .status))) ∷ []))
+    Passed (timely (v .home .started) (v .untimely) ++ addressed (v .home .family) b ++ ((NoConnection, not (q (v .slot .status))) ∷ []))
     → Agrees (freed l t p) (amended (atTime t j) p struck)
 released l j t a b port q free c =
     let p : Peer = record { address = b; port = port } in
@@ -356,19 +357,14 @@ all-follow l j (c ∷ cs) a =
 
 -- The start
 
-free-fits : (f : Family) → Fits f freeSlot
-unfolding block
-free-fits V4 = refl
-free-fits V6 = refl
-
 begun-agrees : (own : List ℕ) (port : ℕ) (k : List ℕ) → Agrees (freshListener own port k) (begun own port k)
-begun-agrees own port k = record { started = refl; time = refl; settings = refl; present = refl; previous = refl; table = blank (familyOf own) }
+begun-agrees own port k = record { started = refl; time = refl; settings = refl; present = refl; previous = refl; table = blank (familyOf (length own)) }
   where
     blank : (f : Family) → Table f 0 (replicate 64 freeSlot) []
     blank f =
         record {
           long = length-replicate 64 freeSlot;
-          fits = all-replicate (Fits f) 64 freeSlot (free-fits f);
+          fits = all-replicate (Fits f) 64 freeSlot (zero-block f);
           match = record { same = λ w. sym (sum-zero (λ s. sum w (entryIn f 0 s)) 64 freeSlot refl); once = λ p. omega arith };
         }
 

@@ -1,6 +1,6 @@
 -- The checks of a call one after the other, and what `step` makes of them. Assumes nothing.
 use Prim.Native.Nat.{ℕ, _≤_, _<_}
-use mathlib.Core.Path.{_≡_, refl, sym, ap, _∙_}
+use mathlib.Core.Path.{_≡_, ap, _∙_}
 use mathlib.Core.Bool.{Bool, true, false, cond, not}
 use mathlib.Core.List.{List, [], _∷_, _++_}
 use lib.Dec.{ltb, eqb}
@@ -10,16 +10,17 @@ use Rattle.segment.specs.Refusal.{refusal}
 use Rattle.segment.specs.Header.{malformed, fieldsOf, kindOf}
 use Rattle.segment.specs.Checksum.{checksumRight}
 use Rattle.segment.specs.declared.refusal.Refusal.{Refusal}
-use Rattle.segment.specs.declared.refusal.Refusal.the-variants.{Format, Address, Checksum, Port, Time, NoConnection, Output, Range, NotStarted}
+use Rattle.segment.specs.declared.refusal.Refusal.the-variants.{Format, Checksum, Port, NoConnection, Output, Range}
 use Rattle.segment.specs.declared.refusal.Check.{Check}
 use Rattle.segment.specs.declared.refusal.Check.the-variants.{Clear, Refused}
 use Rattle.segment.specs.declared.header.Header.{Header}
 use Rattle.segment.specs.declared.header.Kind.{Kind}
 use Rattle.segment.specs.declared.header.Kind.the-variants.{Syn, Rst, Ack, Other}
-use Rattle.listener.specs.Address.{isAddress}
+use Rattle.endpoint.specs.Checks.{isUntimely, timely, addressed}
+use Rattle.endpoint.proofs.Chain.{andThen, chain-then, stopped, passed, only, timed, named}
 use Rattle.listener.specs.Call.{Call, segment, settings, key, resend, sender}
-use Rattle.listener.specs.View.{isUntimely, ownAddress, view, viewOf}
-use Rattle.listener.specs.Refusals.{inRange, isKey, isReleasable, releaseOf, timely, addressed, roomy, kindChecks, wireChecks, judged}
+use Rattle.listener.specs.View.{ownAddress, view, viewOf}
+use Rattle.listener.specs.Refusals.{inRange, isKey, isReleasable, releaseOf, roomy, kindChecks, wireChecks, judged}
 use Rattle.listener.specs.Table.{isWaiting}
 use Rattle.listener.specs.Step.{doneEvent, doneOutput, after, outcomeOf, step, outputIf, outputOf}
 use Rattle.listener.specs.declared.state.Settings.{Settings}
@@ -28,117 +29,72 @@ use Rattle.listener.specs.declared.state.View.{View}
 use Rattle.listener.specs.declared.state.Listener.{Listener}
 use Rattle.listener.specs.declared.answer.Event.the-variants as events
 
--- a check, and another where it is clear
-abbrev pub andThen : Check → Check → Check
-andThen Clear x = x
-andThen (Refused r) x = Refused r
+-- The checks after those of a name: the output, a segment's shape, checksum and port, and its kind
 
--- tests with their refusals, one after the other, and what follows them
-abbrev chain : List (Bool × Refusal) → Check → Check
-chain [] x = x
-chain (c ∷ cs) x = cond (c .0) (Refused (c .1)) (chain cs x)
+module _ (h : Home) (untimely : Bool) (a : List ℕ) (room : ℕ) where
+  abbrev Named : Check
+  Named = refusal (timely (h .started) untimely ++ addressed (h .family) a)
 
-chain-then : (cs : List (Bool × Refusal)) (x : Check) → chain cs x ≡ andThen (chain cs Clear) x
-chain-then [] x = refl
-chain-then (c ∷ cs) x = go (c .0) (chain-then cs x)
-  where
-    go : (b : Bool) → chain cs x ≡ andThen (chain cs Clear) x → cond b (Refused (c .1)) (chain cs x) ≡ andThen (cond b (Refused (c .1)) (chain cs Clear)) x
-    go true e = refl
-    go false e = e
+  abbrev Roomy : Check
+  Roomy = refusal (timely (h .started) untimely ++ addressed (h .family) a ++ roomy room)
 
--- the first of two checks decides, or is passed
-pub stopped : (x y z : Check) {r : Refusal} → x ≡ andThen y z → y ≡ Refused r → x ≡ Refused r
-stopped x y z e k = e ∙ ap (λ (u : Check). andThen u z) k
+  abbrev outed : List (Bool × Refusal)
+  outed = named (h .started) untimely (h .family) a ++ ((ltb room 36, Output) ∷ [])
 
-pub passed : (x y z : Check) → x ≡ andThen y z → y ≡ Clear → x ≡ z
-passed x y z e k = e ∙ ap (λ (u : Check). andThen u z) k
+  output-check : Roomy ≡ andThen Named (only (ltb room 36) Output)
+  output-check = chain-then (named (h .started) untimely (h .family) a) _
 
-abbrev only : Bool → Refusal → Check
-only b r = cond b (Refused r) Clear
+  pub output-stopped : {r : Refusal} → Named ≡ Refused r → Roomy ≡ Refused r
+  output-stopped e = stopped _ _ _ output-check e
 
-module _ (h : Home) (untimely : Bool) where
-  abbrev timed : List (Bool × Refusal)
-  timed = (not (h .started), NotStarted) ∷ (untimely, Time) ∷ []
+  module _ (first : Named ≡ Clear) where
+    pub output-enough : 36 ≤ room → Roomy ≡ Clear
+    output-enough y =
+        let at : only (ltb room 36) Output ≡ Clear = rw (le-ltb _ _ y) in
+        passed _ _ _ output-check first ∙ at
 
-  module _ (a : List ℕ) where
-    abbrev named : List (Bool × Refusal)
-    named = timed ++ ((not (isAddress (h .family) a), Address) ∷ [])
+    pub output-short : room < 36 → Roomy ≡ Refused Output
+    output-short y =
+        let at : only (ltb room 36) Output ≡ Refused Output = rw (lt-ltb _ _ y) in
+        passed _ _ _ output-check first ∙ at
 
-    name-check : refusal (timely h untimely ++ addressed h a) ≡ andThen (refusal (timely h untimely)) (only (not (isAddress (h .family) a)) Address)
-    name-check = chain-then timed _
+  module _ (seg : List ℕ) where
+    abbrev pub wire : Check
+    wire = cond (malformed seg) (Refused Format) (cond (not (checksumRight a (ownAddress h) seg)) (Refused Checksum) (only (not (eqb (fieldsOf seg .dest) (h .port))) Port))
 
-    pub name-stopped : {r : Refusal} → refusal (timely h untimely) ≡ Refused r → refusal (timely h untimely ++ addressed h a) ≡ Refused r
-    name-stopped e = stopped _ _ _ name-check e
+    pub wire-check : refusal (wireChecks h untimely a seg room) ≡ andThen Roomy wire
+    wire-check = chain-then outed _
 
-    module _ (first : refusal (timely h untimely) ≡ Clear) {ours : Bool} (e : ours ≡ isAddress (h .family) a) where
-      pub name-right : ours ≡ true → refusal (timely h untimely ++ addressed h a) ≡ Clear
-      name-right y =
-          let at : only (not (isAddress (h .family) a)) Address ≡ Clear = rw (sym e ∙ y) in
-          passed _ _ _ name-check first ∙ at
+    abbrev wired : List (Bool × Refusal)
+    wired = outed ++ ((malformed seg, Format) ∷ (not (checksumRight a (ownAddress h) seg), Checksum) ∷ (not (eqb (fieldsOf seg .dest) (h .port)), Port) ∷ [])
 
-      pub name-wrong : ours ≡ false → refusal (timely h untimely ++ addressed h a) ≡ Refused Address
-      name-wrong y =
-          let at : only (not (isAddress (h .family) a)) Address ≡ Refused Address = rw (sym e ∙ y) in
-          passed _ _ _ name-check first ∙ at
-
-    module _ (room : ℕ) where
-      abbrev outed : List (Bool × Refusal)
-      outed = named ++ ((ltb room 36, Output) ∷ [])
-
-      output-check : refusal (timely h untimely ++ addressed h a ++ roomy room) ≡ andThen (refusal (timely h untimely ++ addressed h a)) (only (ltb room 36) Output)
-      output-check = chain-then named _
-
-      pub output-stopped : {r : Refusal} → refusal (timely h untimely ++ addressed h a) ≡ Refused r → refusal (timely h untimely ++ addressed h a ++ roomy room) ≡ Refused r
-      output-stopped e = stopped _ _ _ output-check e
-
-      module _ (first : refusal (timely h untimely ++ addressed h a) ≡ Clear) where
-        pub output-enough : 36 ≤ room → refusal (timely h untimely ++ addressed h a ++ roomy room) ≡ Clear
-        output-enough y =
-            let at : only (ltb room 36) Output ≡ Clear = rw (le-ltb _ _ y) in
-            passed _ _ _ output-check first ∙ at
-
-        pub output-short : room < 36 → refusal (timely h untimely ++ addressed h a ++ roomy room) ≡ Refused Output
-        output-short y =
-            let at : only (ltb room 36) Output ≡ Refused Output = rw (lt-ltb _ _ y) in
-            passed _ _ _ output-check first ∙ at
-
-      module _ (seg : List ℕ) where
-        abbrev pub wire : Check
-        wire = cond (malformed seg) (Refused Format) (cond (not (checksumRight a (ownAddress h) seg)) (Refused Checksum) (only (not (eqb (fieldsOf seg .dest) (h .port))) Port))
-
-        pub wire-check : refusal (wireChecks h untimely a seg room) ≡ andThen (refusal (timely h untimely ++ addressed h a ++ roomy room)) wire
-        wire-check = chain-then outed _
-
-        abbrev wired : List (Bool × Refusal)
-        wired = outed ++ ((malformed seg, Format) ∷ (not (checksumRight a (ownAddress h) seg), Checksum) ∷ (not (eqb (fieldsOf seg .dest) (h .port)), Port) ∷ [])
-
-        kind-check : (v : View) (x : Header) (k : Kind)
-            → refusal (wireChecks h untimely a seg room ++ kindChecks v x k) ≡ andThen (refusal (wireChecks h untimely a seg room)) (refusal (kindChecks v x k))
-        kind-check v x Syn = chain-then wired _
-        kind-check v x Ack = chain-then wired _
-        kind-check v x Rst = chain-then wired _
-        kind-check v x Other = chain-then wired _
+    kind-check : (v : View) (x : Header) (k : Kind)
+        → refusal (wireChecks h untimely a seg room ++ kindChecks v x k) ≡ andThen (refusal (wireChecks h untimely a seg room)) (refusal (kindChecks v x k))
+    kind-check v x Syn = chain-then wired _
+    kind-check v x Ack = chain-then wired _
+    kind-check v x Rst = chain-then wired _
+    kind-check v x Other = chain-then wired _
 
 -- What the checks of each call come to
 
 module _ (l : Listener) (t : ℕ) where
-  pub judged-settings : (g : Settings) → judged l (settings t g) ≡ andThen (refusal (timely (l .home) (isUntimely (l .clock) t))) (only (not (inRange g)) Range)
+  pub judged-settings : (g : Settings) → judged l (settings t g) ≡ andThen (refusal (timely (l .home .started) (isUntimely (l .clock) t))) (only (not (inRange g)) Range)
   unfolding judged
-  judged-settings g = chain-then (timed (l .home) (isUntimely (l .clock) t)) _
+  judged-settings g = chain-then (timed (l .home .started) (isUntimely (l .clock) t)) _
 
-  pub judged-key : (k : List ℕ) → judged l (key t k) ≡ andThen (refusal (timely (l .home) (isUntimely (l .clock) t))) (only (not (isKey k)) Range)
+  pub judged-key : (k : List ℕ) → judged l (key t k) ≡ andThen (refusal (timely (l .home .started) (isUntimely (l .clock) t))) (only (not (isKey k)) Range)
   unfolding judged
-  judged-key k = chain-then (timed (l .home) (isUntimely (l .clock) t)) _
+  judged-key k = chain-then (timed (l .home .started) (isUntimely (l .clock) t)) _
 
   pub judged-release : (e : Bool) (a : List ℕ) (p : ℕ) → judged l (releaseOf e t a p)
-      ≡ andThen (refusal (timely (l .home) (isUntimely (l .clock) t) ++ addressed (l .home) a))
+      ≡ andThen (refusal (timely (l .home .started) (isUntimely (l .clock) t) ++ addressed (l .home .family) a))
       (only (not (isReleasable e (view l t (record { address = a; port = p }) .slot .status))) NoConnection)
   unfolding judged
-  judged-release true a p = chain-then (named (l .home) (isUntimely (l .clock) t) a) _
-  judged-release false a p = chain-then (named (l .home) (isUntimely (l .clock) t) a) _
+  judged-release true a p = chain-then (named (l .home .started) (isUntimely (l .clock) t) (l .home .family) a) _
+  judged-release false a p = chain-then (named (l .home .started) (isUntimely (l .clock) t) (l .home .family) a) _
 
   pub judged-resend : (a : List ℕ) (p room : ℕ) → judged l (resend t a p room)
-      ≡ andThen (refusal (timely (l .home) (isUntimely (l .clock) t) ++ addressed (l .home) a ++ roomy room))
+      ≡ andThen (refusal (timely (l .home .started) (isUntimely (l .clock) t) ++ addressed (l .home .family) a ++ roomy room))
       (only (not (isWaiting (view l t (record { address = a; port = p }) .slot .status))) NoConnection)
   unfolding judged
   judged-resend a p room = chain-then (outed (l .home) (isUntimely (l .clock) t) a room) _

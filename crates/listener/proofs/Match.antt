@@ -7,16 +7,16 @@ use native.Mathlib.Omega.{arith}
 use borrow.Author.Tests.{ltb-true, ltb-false, eqb-true, eq-eqb}
 use lib.Dec.{ltb, eqb}
 use lib.ListN.{length, getD, set, take}
-use Rattle.listener.specs.Lists.{bit, sum, tally, amend, sameBytes}
-use Rattle.listener.specs.Address.{Peer, samePeer, size, block}
+use Rattle.endpoint.specs.Lists.{bit, sum, tally, amend, sameBytes}
+use Rattle.endpoint.specs.Address.{Peer, samePeer, size, block}
+use Rattle.endpoint.specs.declared.address.Family.{Family}
+use Rattle.endpoint.proofs.Names.{one-test, same-bytes-eq, same-bytes-refl, samePeer-eq, samePeer-refl, short}
+use Rattle.endpoint.proofs.Sums.{sum-ext, sum-le, sum-amend, sum-set, sum-only, amend-amend, amend-ext}
 use Rattle.listener.specs.Table.{isLive, isPending, holdsPeer, pendingAt, freeSlot}
 use Rattle.listener.specs.Journal.{Mark, markPlain, markEarly, markOpen, markHeld, Entry, pends, named, keptMark, kept, only}
-use Rattle.listener.specs.declared.address.Family.{Family}
 use Rattle.listener.specs.declared.table.Status.{Status}
 use Rattle.listener.specs.declared.table.Status.the-variants.{Free, SynReceived, FastOpen, ResetHeld, Established}
 use Rattle.listener.specs.declared.table.Slot.{Slot}
-use Rattle.listener.proofs.Sums.{sum-ext, sum-le, sum-amend, sum-set, sum-only, amend-amend, amend-ext}
-use Rattle.listener.proofs.Names.{one-test, same-bytes-eq, same-bytes-refl, samePeer-eq, samePeer-refl, short}
 
 -- The entry that a slot stands for
 

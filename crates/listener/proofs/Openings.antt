@@ -14,19 +14,20 @@ use Rattle.segment.proofs.Numbers.{none-applies}
 use Rattle.segment.specs.declared.refusal.Refusal.the-variants.{TableFull}
 use Rattle.segment.specs.declared.refusal.Check.the-variants.{Clear}
 use Rattle.segment.specs.declared.header.Kind.the-variants.{Syn}
-use Rattle.listener.specs.Lists.{bit, tally, firstIndex}
-use Rattle.listener.specs.Address.{Peer, block}
+use Rattle.endpoint.specs.Lists.{bit, tally, firstIndex}
+use Rattle.endpoint.specs.Address.{Peer, block}
+use Rattle.endpoint.specs.Checks.{isUntimely}
+use Rattle.endpoint.proofs.Sums.{sum-set, some-passes, first-passes, none-passes}
 use Rattle.listener.specs.Cookie.{carriedBy, right}
 use Rattle.listener.specs.Table.{isLive, isPending, isFree, freeSlot, newSlot, holdsPeer, freePlace, pendingAt}
 use Rattle.listener.specs.Call.{segment, sender}
-use Rattle.listener.specs.View.{isUntimely, known, view}
+use Rattle.listener.specs.View.{known, view}
 use Rattle.listener.specs.Refusals.{wireChecks, judged}
 use Rattle.listener.specs.Step.{accepts, isEarly, isFresh, newEvent, answerTo, put, after, step}
 use Rattle.listener.specs.declared.table.Status.{Status}
 use Rattle.listener.specs.declared.table.Status.the-variants.{Free, SynReceived, FastOpen, ResetHeld, Established}
 use Rattle.listener.specs.declared.table.Slot.{Slot}
 use Rattle.listener.specs.declared.state.Listener.{Listener}
-use Rattle.listener.proofs.Sums.{sum-set, some-passes, first-passes, none-passes}
 
 -- The table
 

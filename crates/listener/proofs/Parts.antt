@@ -1,7 +1,7 @@
 -- What calls of a function come to, from what their callees ensure. Assumes nothing.
 use Prim.Native.Nat.{ℕ, _≤_, _<_}
 use mathlib.Core.Path.{_≡_, sym}
-use mathlib.Core.Bool.{Bool, true, false, not, _&&_}
+use mathlib.Core.Bool.{Bool, true, false}
 use mathlib.Core.List.{List, []}
 use lib.Dec.{eqb, leb}
 use lib.ListN.{length, take, replicate}
@@ -12,12 +12,11 @@ use Rattle.segment.specs.Sequence.{nextAfter, inWindow}
 use Rattle.segment.specs.declared.refusal.Refusal.the-variants.{Address, Range}
 use Rattle.segment.specs.declared.refusal.Check.the-variants.{Clear, Refused}
 use Rattle.segment.specs.declared.header.Header.{Header}
-use Rattle.listener.specs.Address.{block}
+use Rattle.endpoint.specs.Address.{isSize, familyOf, block}
+use Rattle.endpoint.specs.declared.address.Family.{Family}
 use Rattle.listener.specs.Call.{acceptedOf, acceptedPart}
 use Rattle.listener.specs.Refusals.{inRange, expected, completes}
-use Rattle.listener.specs.Step.{blank, familyOf, freshListener, neverStarted, startOf}
-use Rattle.listener.specs.declared.address.Family.{Family}
-use Rattle.listener.specs.declared.address.Family.the-variants.{V4, V6}
+use Rattle.listener.specs.Step.{blank, freshListener, neverStarted, startOf}
 use Rattle.listener.specs.declared.state.Settings.{Settings}
 use Rattle.listener.specs.declared.table.Slot.{Slot}
 use Rattle.listener.specs.declared.answer.Event.{Event}
@@ -49,35 +48,20 @@ unfolding inRange
 last-bound g a b c d = rw (le-leb _ _ a, le-leb _ _ b, le-leb _ _ c, le-leb _ _ d)
 
 -- a fresh listener
-pub four-bytes : (own : List ℕ) {f : Family} → f ≡ V4 → length own ≡ 4 → f ≡ familyOf own
-four-bytes own e h = rw (e, eq-eqb _ _ h)
-
-pub other-bytes : (own : List ℕ) {f : Family} → f ≡ V6 → (length own ≡ 4 → ⊥) → f ≡ familyOf own
-other-bytes own e h = rw (e, ne-eqb _ _ h)
-
-pub fresh-made : (own : List ℕ) (port : ℕ) (k : List ℕ) {f : Family} {b w : List ℕ} → f ≡ familyOf own → b ≡ block own → w ≡ keyExpansion k
+pub fresh-made : (own : List ℕ) (port : ℕ) (k : List ℕ) {f : Family} {b w : List ℕ} → f ≡ familyOf (length own) → b ≡ block own → w ≡ keyExpansion k
     → blank (record { started = true; family = f; own = b; port = port }) (record { present = w; previous = replicate 176 0; rotated = false }) ≡ freshListener own port k
 fresh-made own port k e o q = rw (e, o, q)
 
 -- a start
 module _ (own : List ℕ) (port : ℕ) (k : List ℕ) where
-  abbrev noFamily : Bool
-  noFamily = not (eqb (length own) 4) && not (eqb (length own) 16)
-
-  pub own-four : length own ≡ 4 → noFamily ≡ false
-  own-four e = rw e
-
-  pub own-sixteen : length own ≡ 16 → noFamily ≡ false
-  own-sixteen e = rw e
-
-  pub start-address : (length own ≡ 4 → ⊥) → (length own ≡ 16 → ⊥) → _≡_ {A = Started} (record { listener = neverStarted; check = Refused Address }) (startOf own port k)
+  pub start-address : isSize (length own) ≡ false → _≡_ {A = Started} (record { listener = neverStarted; check = Refused Address }) (startOf own port k)
   unfolding startOf
-  start-address a b = rw (ne-eqb _ _ a, ne-eqb _ _ b)
+  start-address a = rw a
 
-  pub start-key : noFamily ≡ false → (length k ≡ 16 → ⊥) → _≡_ {A = Started} (record { listener = neverStarted; check = Refused Range }) (startOf own port k)
+  pub start-key : isSize (length own) ≡ true → (length k ≡ 16 → ⊥) → _≡_ {A = Started} (record { listener = neverStarted; check = Refused Range }) (startOf own port k)
   unfolding startOf
   start-key a b = rw (a, ne-eqb _ _ b)
 
-  pub start-done : noFamily ≡ false → length k ≡ 16 → _≡_ {A = Started} (record { listener = freshListener own port k; check = Clear }) (startOf own port k)
+  pub start-done : isSize (length own) ≡ true → length k ≡ 16 → _≡_ {A = Started} (record { listener = freshListener own port k; check = Clear }) (startOf own port k)
   unfolding startOf
   start-done a b = rw (a, eq-eqb _ _ b)

@@ -1,11 +1,9 @@
 -- A segment's checks before its kind, from what the functions on the way ensure. Assumes nothing.
-use Prim.Native.Nat.{ℕ, _≤_}
+use Prim.Native.Nat.{ℕ}
 use mathlib.Core.Path.{_≡_, sym, ap, _∙_}
 use mathlib.Core.Bool.{Bool, true, false}
 use mathlib.Core.List.{List, _++_}
-use native.Mathlib.Omega.{arith}
-use lib.ListN.{length, take}
-use lib.Seq.{length-take-le}
+use lib.ListN.{take}
 use borrow.Author.Tests.{eq-eqb, ne-eqb}
 use Rattle.segment.specs.Refusal.{refusal}
 use Rattle.segment.specs.Header.{fieldsOf, shapeOf}
@@ -17,26 +15,18 @@ use Rattle.segment.specs.declared.refusal.Check.the-variants.{Clear, Refused}
 use Rattle.segment.specs.declared.header.Header.{Header}
 use Rattle.segment.specs.declared.header.Shape.the-variants.{Malformed, WellFormed}
 use Rattle.segment.proofs.Formed.{ill-shaped, well-shaped}
-use Rattle.listener.specs.Address.{size}
+use Rattle.endpoint.specs.Address.{size}
+use Rattle.endpoint.specs.Checks.{timely, addressed}
+use Rattle.endpoint.proofs.Chain.{stopped, passed}
 use Rattle.listener.specs.View.{ownAddress}
-use Rattle.listener.specs.Refusals.{timely, addressed, roomy, wireChecks, received}
-use Rattle.listener.specs.declared.address.Family.{Family}
-use Rattle.listener.specs.declared.address.Family.the-variants.{V4, V6}
+use Rattle.listener.specs.Refusals.{roomy, wireChecks, received}
 use Rattle.listener.specs.declared.state.Home.{Home}
 use Rattle.listener.specs.declared.checks.Received.the-variants.{Dropped, Read}
-use Rattle.listener.proofs.Judging.{wire, wire-check, stopped, passed}
-
--- an own address is within its block
-pub own-most : (f : Family) (own : List ℕ) {n : ℕ} → n ≡ size f → length own ≡ 16 → n ≤ length own
-own-most V4 own e l = omega arith
-own-most V6 own e l = omega arith
-
-pub own-part : (f : Family) (own : List ℕ) {n : ℕ} → n ≡ size f → length own ≡ 16 → n ≡ length (take n own)
-own-part f own {n} e l = sym (length-take-le n own (own-most f own e l))
+use Rattle.listener.proofs.Judging.{wire, wire-check}
 
 module _ (h : Home) (untimely : Bool) (src seg : List ℕ) (room : ℕ) where
   abbrev First : Check
-  First = refusal (timely h untimely ++ addressed h src ++ roomy room)
+  First = refusal (timely (h .started) untimely ++ addressed (h .family) src ++ roomy room)
 
   abbrev All : Check
   All = refusal (wireChecks h untimely src seg room)

@@ -1,26 +1,19 @@
 -- One scan of the table finds what `scanOf` says. Assumes nothing.
-use Prim.Native.Nat.{ℕ, zero, suc, _+_, _≤_, _<_}
+use Prim.Native.Nat.{ℕ, suc, _+_, _≤_, _<_}
 use mathlib.Core.Path.{_≡_, refl, ap, _∙_}
 use mathlib.Core.Bool.{Bool, true, false, cond, not}
 use mathlib.Core.List.{List, [], _∷_}
 use native.Mathlib.Omega.{arith}
-use native.Mathlib.Nat.{le-of-suc-le-suc, not-suc-le-zero}
 use native.Mathlib.Numerals.{add-one}
 use lib.Dec.{ltb}
 use lib.ListN.{length, drop, getD, drop-of-length-le}
 use lib.Seq.{drop-cons}
 use borrow.Author.Tests.{ltb-false, lt-ltb}
-use Rattle.listener.specs.Lists.{bit, tally, firstIndex}
+use Rattle.endpoint.specs.Lists.{bit, tally, firstIndex}
 use Rattle.listener.specs.Table.{isLive, isPending, freeSlot, holdsPeer, scanOf}
 use Rattle.listener.specs.Scan.{firstPlace, countIf, seenWith}
 use Rattle.listener.specs.declared.table.Slot.{Slot}
 use Rattle.listener.specs.declared.table.Scan.{Scan}
-
--- an element that is there is the same whatever stands in for one that is not
-pub present : {A : Type 0} (xs : List A) (i : ℕ) (d e : A) → i < length xs → getD xs i d ≡ getD xs i e
-present [] i d e h = absurd (not-suc-le-zero h)
-present (x ∷ xs) zero d e h = refl
-present (x ∷ xs) (suc i) d e h = present xs i d e (le-of-suc-le-suc h)
 
 module _ (p : Slot → Bool) where
   -- the first place where the test passes, from place i on, where `found` was found before

@@ -12,7 +12,7 @@ use Rattle.segment.specs.declared.refusal.Check.the-variants.{Clear, Refused}
 use Rattle.segment.specs.declared.header.Header.{Header}
 use Rattle.segment.specs.declared.header.Kind.the-variants.{Ack}
 use Rattle.segment.proofs.Sixteen.{row1, row2, row3, row4, row5, row6, row7, row8, row9, row10, row11, row12, row16}
-use Rattle.listener.specs.Address.{block}
+use Rattle.endpoint.specs.Address.{block}
 use Rattle.listener.specs.Table.{pendingAt}
 use Rattle.listener.specs.Call.{segment, sender}
 use Rattle.listener.specs.View.{view}

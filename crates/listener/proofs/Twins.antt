@@ -11,12 +11,14 @@ use Rattle.segment.specs.Refusal.{order}
 use Rattle.segment.specs.Header.{payloadOf}
 use Rattle.segment.proofs.Bools.{or-false}
 use Rattle.segment.proofs.Numbers.{none-applies}
-use Rattle.listener.specs.Lists.{bit, tally}
-use Rattle.listener.specs.Address.{Peer, block}
+use Rattle.endpoint.specs.Lists.{bit, tally}
+use Rattle.endpoint.specs.Address.{Peer, block}
+use Rattle.endpoint.specs.Checks.{isUntimely}
+use Rattle.endpoint.proofs.Sums.{sum-le, sum-set}
 use Rattle.listener.specs.Cookie.{carriedBy, right}
 use Rattle.listener.specs.Table.{isLive, isPending, freeSlot, holdsPeer, freePlace, pendingAt}
 use Rattle.listener.specs.Call.{sender, acceptedPart}
-use Rattle.listener.specs.View.{isUntimely, known, view}
+use Rattle.listener.specs.View.{known, view}
 use Rattle.listener.specs.Refusals.{wireChecks}
 use Rattle.listener.specs.Step.{put, step}
 use Rattle.listener.specs.Twins.{Arrival, callOf, Opens, TwoOpenings, upToRoom, BothEarly}
@@ -25,7 +27,6 @@ use Rattle.listener.specs.declared.table.Status.the-variants.{Free, SynR
 use Rattle.listener.specs.declared.table.Slot.{Slot}
 use Rattle.listener.specs.declared.state.Listener.{Listener}
 use Rattle.listener.specs.declared.answer.Event.the-variants as events
-use Rattle.listener.proofs.Sums.{sum-le, sum-set}
 use Rattle.listener.proofs.Openings.{first-found, holding, unknown-none, none-unknown, slotFor, is-early, new-clear, step-new}
 
 -- Tests, as numbers

@@ -7,7 +7,7 @@ use lib.Dec.{ltb}
 use lib.ListN.{length, take}
 use Rattle.segment.specs.Refusal.{numberOf}
 use Rattle.segment.specs.Header.{payloadOf, fieldsOf}
-use Rattle.listener.specs.Address.{Peer}
+use Rattle.endpoint.specs.Address.{Peer}
 use Rattle.listener.specs.declared.state.Settings.{Settings}
 use Rattle.listener.specs.declared.answer.Event.{Event}
 use Rattle.listener.specs.declared.answer.Event.the-variants.{Refused, FastOpen, Regular, Retransmission, Completed, WasReset, Done}

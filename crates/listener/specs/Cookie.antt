@@ -9,7 +9,7 @@ use Rattle.segment.specs.Header.{optionArea}
 use Rattle.segment.specs.Options.{optionsOf}
 use Rattle.segment.specs.declared.options.FastOpen.{FastOpen}
 use Rattle.segment.specs.declared.options.FastOpen.the-variants.{Absent, Request, Cookie}
-use Rattle.listener.specs.Lists.{sameBytes}
+use Rattle.endpoint.specs.Lists.{sameBytes}
 use Rattle.listener.specs.declared.state.Keys.{Keys}
 use Rattle.listener.specs.declared.cookie.OptionCheck.{OptionCheck}
 

@@ -10,8 +10,8 @@ use Rattle.cipher.specs.KeyExpansion.{keyExpansion}
 use Rattle.segment.specs.Header.{fieldsOf, payloadOf, kindOf}
 use Rattle.segment.specs.declared.header.Kind.{Kind}
 use Rattle.segment.specs.declared.header.Kind.the-variants.{Syn, Rst, Ack, Other}
-use Rattle.listener.specs.Lists.{tally, amend}
-use Rattle.listener.specs.Address.{Peer, samePeer, block}
+use Rattle.endpoint.specs.Lists.{tally, amend}
+use Rattle.endpoint.specs.Address.{Peer, samePeer, block}
 use Rattle.listener.specs.Cookie.{Carried, carriedBy, rightUnder}
 use Rattle.listener.specs.Call.{Call, segment, settings, key, abandon, resend, close, sender, timeOf, Verdict, early, plain, repeat, unjudged}
 use Rattle.listener.specs.declared.state.Settings.{Settings}

@@ -9,13 +9,13 @@ use Rattle.segment.specs.Refusal.{Checks, refusal}
 use Rattle.segment.specs.Header.{malformed, fieldsOf, kindOf}
 use Rattle.segment.specs.Checksum.{checksumRight}
 use Rattle.segment.specs.Sequence.{nextAfter, inWindow}
-use Rattle.segment.specs.declared.refusal.Refusal.the-variants.{Format, Address, Checksum, Port, Time, Flags, NameInUse, TableFull, NoConnection, Sequence, Output, Range, NotStarted}
+use Rattle.segment.specs.declared.refusal.Refusal.the-variants.{Format, Checksum, Port, Flags, NameInUse, TableFull, NoConnection, Sequence, Output, Range}
 use Rattle.segment.specs.declared.refusal.Check.{Check}
 use Rattle.segment.specs.declared.refusal.Check.the-variants.{Clear, Refused}
 use Rattle.segment.specs.declared.header.Header.{Header}
 use Rattle.segment.specs.declared.header.Kind.{Kind}
 use Rattle.segment.specs.declared.header.Kind.the-variants.{Syn, Rst, Ack, Other}
-use Rattle.listener.specs.Address.{isAddress}
+use Rattle.endpoint.specs.Checks.{timely, addressed}
 use Rattle.listener.specs.Table.{isWaiting, isEstablished, acceptedWith}
 use Rattle.listener.specs.Call.{Call, segment, settings, key, abandon, resend, close}
 use Rattle.listener.specs.View.{known, ownAddress, viewOf}
@@ -56,12 +56,6 @@ resets s h = eqb (h .seq) (expected s)
 
 -- Checks that calls share
 
-abbrev pub timely : Home → Bool → Checks
-timely h untimely = (NotStarted, not (h .started)) ∷ (Time, untimely) ∷ []
-
-abbrev pub addressed : Home → List ℕ → Checks
-addressed h a = (Address, not (isAddress (h .family) a)) ∷ []
-
 -- the longest answer has 36 bytes
 abbrev pub roomy : ℕ → Checks
 roomy room = (Output, ltb room 36) ∷ []
@@ -84,7 +78,7 @@ kindChecks v h Other = (Flags, true) ∷ []
 -- what is asked of a segment before its kind is looked at
 abbrev pub wireChecks : Home → Bool → List ℕ → List ℕ → ℕ → Checks
 wireChecks h untimely src seg room =
-    timely h untimely ++ addressed h src ++ roomy room
+    timely (h .started) untimely ++ addressed (h .family) src ++ roomy room
     ++ ((Format, malformed seg)
     ∷ (Checksum, not (checksumRight src (ownAddress h) seg))
     ∷ (Port, not (eqb (fieldsOf seg .dest) (h .port))) ∷ [])
@@ -92,11 +86,11 @@ wireChecks h untimely src seg room =
 -- the checks of a call
 abbrev pub checks : View → Call → Checks
 checks v (segment t src seg iss room) = wireChecks (v .home) (v .untimely) src seg room ++ kindChecks v (fieldsOf seg) (kindOf (fieldsOf seg .flags))
-checks v (settings t g) = timely (v .home) (v .untimely) ++ ((Range, not (inRange g)) ∷ [])
-checks v (key t k) = timely (v .home) (v .untimely) ++ ((Range, not (isKey k)) ∷ [])
-checks v (abandon t a p) = timely (v .home) (v .untimely) ++ addressed (v .home) a ++ waiting (v .slot)
-checks v (resend t a p room) = timely (v .home) (v .untimely) ++ addressed (v .home) a ++ roomy room ++ waiting (v .slot)
-checks v (close t a p) = timely (v .home) (v .untimely) ++ addressed (v .home) a ++ ((NoConnection, not (isEstablished (v .slot .status))) ∷ [])
+checks v (settings t g) = timely (v .home .started) (v .untimely) ++ ((Range, not (inRange g)) ∷ [])
+checks v (key t k) = timely (v .home .started) (v .untimely) ++ ((Range, not (isKey k)) ∷ [])
+checks v (abandon t a p) = timely (v .home .started) (v .untimely) ++ addressed (v .home .family) a ++ waiting (v .slot)
+checks v (resend t a p room) = timely (v .home .started) (v .untimely) ++ addressed (v .home .family) a ++ roomy room ++ waiting (v .slot)
+checks v (close t a p) = timely (v .home .started) (v .untimely) ++ addressed (v .home .family) a ++ ((NoConnection, not (isEstablished (v .slot .status))) ∷ [])
 
 -- what the checks of a call come to: the first refusal, in 01's order, that applies
 unfoldable pub judged : Listener → Call → Check

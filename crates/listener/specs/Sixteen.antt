@@ -17,7 +17,7 @@ use Rattle.segment.specs.declared.refusal.Check.the-variants.{Clear, Refused}
 use Rattle.segment.specs.declared.header.Header.{Header}
 use Rattle.segment.specs.declared.header.Kind.the-variants.{Syn, Ack}
 use Rattle.segment.specs.declared.write.Answer.{Answer}
-use Rattle.listener.specs.Address.{block}
+use Rattle.endpoint.specs.Address.{block}
 use Rattle.listener.specs.Cookie.{carriedBy, right}
 use Rattle.listener.specs.Table.{isWaiting, pendingAt}
 use Rattle.listener.specs.Call.{segment, sender}

@@ -3,7 +3,6 @@
 use Prim.Native.Nat.{ℕ, _+_, min}
 use mathlib.Core.List.{List, [], _∷_}
 use mathlib.Core.Bool.{Bool, true, false, cond, not, _&&_}
-use lib.Dec.{eqb}
 use lib.ListN.{length, replicate, set}
 use Rattle.cipher.specs.KeyExpansion.{keyExpansion}
 use Rattle.segment.specs.Refusal.{Checks, refusal}
@@ -16,14 +15,13 @@ use Rattle.segment.specs.declared.header.Header.{Header}
 use Rattle.segment.specs.declared.header.Kind.{Kind}
 use Rattle.segment.specs.declared.header.Kind.the-variants.{Syn, Rst, Ack, Other}
 use Rattle.segment.specs.declared.write.Answer.{Answer}
-use Rattle.listener.specs.Address.{Peer, block}
+use Rattle.endpoint.specs.Address.{Peer, isSize, familyOf, block}
+use Rattle.endpoint.specs.declared.address.Family.the-variants.{V4}
 use Rattle.listener.specs.Cookie.{carriedBy, counts, cookieUnder, rightUnder, right}
 use Rattle.listener.specs.Table.{acceptedWith, afterReset, freeSlot, newSlot, withStatus, pendingAt}
 use Rattle.listener.specs.Call.{Call, segment, settings, key, abandon, resend, close, sender}
 use Rattle.listener.specs.View.{known, ownAddress, scanFor, view, viewOf}
 use Rattle.listener.specs.Refusals.{isKey, judged}
-use Rattle.listener.specs.declared.address.Family.{Family}
-use Rattle.listener.specs.declared.address.Family.the-variants.{V4, V6}
 use Rattle.listener.specs.declared.table.Status.the-variants.{Free, SynReceived, FastOpen, Established}
 use Rattle.listener.specs.declared.table.Slot.{Slot}
 use Rattle.listener.specs.declared.table.Scan.{Scan}
@@ -54,18 +52,14 @@ neverStarted =
     blank (record { started = false; family = V4; own = replicate 16 0; port = 0 })
     (record { present = replicate 176 0; previous = replicate 176 0; rotated = false })
 
--- the family of an address that has one
-abbrev pub familyOf : List ℕ → Family
-familyOf a = cond (eqb (length a) 4) V4 V6
-
 abbrev pub freshListener : List ℕ → ℕ → List ℕ → Listener
 freshListener own port k =
-    blank (record { started = true; family = familyOf own; own = block own; port = port })
+    blank (record { started = true; family = familyOf (length own); own = block own; port = port })
     (record { present = keyExpansion k; previous = replicate 176 0; rotated = false })
 
 -- 2: not 4 or 16 bytes. 12: not a key
 abbrev pub startChecks : List ℕ → List ℕ → Checks
-startChecks own k = (Address, not (eqb (length own) 4) && not (eqb (length own) 16)) ∷ (Range, not (isKey k)) ∷ []
+startChecks own k = (Address, not (isSize (length own))) ∷ (Range, not (isKey k)) ∷ []
 
 abbrev pub startedBy : List ℕ → ℕ → List ℕ → Check → Started
 startedBy own port k Clear = record { listener = freshListener own port k; check = Clear }

@@ -9,12 +9,13 @@ use Rattle.segment.specs.Refusal.{refusal}
 use Rattle.segment.specs.Header.{fieldsOf, payloadOf, kindOf}
 use Rattle.segment.specs.declared.refusal.Check.the-variants.{Clear}
 use Rattle.segment.specs.declared.header.Kind.the-variants.{Syn}
-use Rattle.listener.specs.Lists.{tally}
-use Rattle.listener.specs.Address.{block}
+use Rattle.endpoint.specs.Lists.{tally}
+use Rattle.endpoint.specs.Address.{block}
+use Rattle.endpoint.specs.Checks.{isUntimely}
 use Rattle.listener.specs.Cookie.{carriedBy, right}
 use Rattle.listener.specs.Table.{isLive, pendingAt}
 use Rattle.listener.specs.Call.{Call, segment, sender, acceptedPart}
-use Rattle.listener.specs.View.{isUntimely, known, view}
+use Rattle.listener.specs.View.{known, view}
 use Rattle.listener.specs.Refusals.{wireChecks}
 use Rattle.listener.specs.Step.{accepts, step}
 use Rattle.listener.specs.declared.state.Listener.{Listener}

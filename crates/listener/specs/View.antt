@@ -1,12 +1,13 @@
 -- Document 01, "Listener": what a call's answer depends on, the listener as the call sees it, at its time and for its peer. No answer says in which place a
 -- slot stands.
 -- Assumes nothing.
-use Prim.Native.Nat.{ℕ, _^_}
+use Prim.Native.Nat.{ℕ}
 use mathlib.Core.List.{List}
-use mathlib.Core.Bool.{Bool, not, _||_}
+use mathlib.Core.Bool.{Bool, not}
 use lib.Dec.{ltb}
 use lib.ListN.{getD, take}
-use Rattle.listener.specs.Address.{Peer, size, block}
+use Rattle.endpoint.specs.Address.{Peer, size, block}
+use Rattle.endpoint.specs.Checks.{isUntimely}
 use Rattle.listener.specs.Table.{isFree, freeSlot, scanOf}
 use Rattle.listener.specs.Call.{Call, timeOf, peerOf}
 use Rattle.listener.specs.declared.state.Home.{Home}
@@ -15,10 +16,6 @@ use Rattle.listener.specs.declared.state.Listener.{Listener}
 use Rattle.listener.specs.declared.state.View.{View}
 use Rattle.listener.specs.declared.table.Slot.{Slot}
 use Rattle.listener.specs.declared.table.Scan.{Scan}
-
--- refusal 5
-abbrev pub isUntimely : ℕ → ℕ → Bool
-isUntimely clock t = ltb t clock || ltb (2 ^ 48) t
 
 -- the settings in force at a time
 abbrev pub settingsAt : Listener → ℕ → InForce

@@ -1,18 +1,13 @@
 // The start, the calls and the readings. Each call carries a time in ms and answers the listener next; a refused one answers the listener as it was
 // and leaves the output alone.
 use crate::action::act;
-use crate::address::Family;
-use crate::address::block_of;
-use crate::address::size_of;
 use crate::answer::Event;
 use crate::answer::Outcome;
 use crate::answer::Started;
 use crate::answer::is_answered;
 use crate::checks::Received;
 use crate::checks::check_kind;
-use crate::checks::check_name;
 use crate::checks::check_output;
-use crate::checks::check_time;
 use crate::checks::is_in_range;
 use crate::checks::receive;
 use crate::state::Home;
@@ -33,6 +28,13 @@ use crate::table::is_waiting;
 use crate::table::scan_table;
 use crate::table::with_status;
 use cipher::expand_key;
+use endpoint::address::Family;
+use endpoint::address::block_of;
+use endpoint::address::family_of;
+use endpoint::address::is_size;
+use endpoint::address::size_of;
+use endpoint::checks::check_name;
+use endpoint::checks::check_time;
 use segment::header::Header;
 use segment::header::kind_of;
 use segment::refusal::Check;
@@ -45,8 +47,9 @@ ghost use lib.ListN.{length};
 ghost use Rattle.segment.specs.Refusal.{refusal};
 ghost use Rattle.segment.specs.Header.{fieldsOf};
 ghost use Rattle.segment.specs.Write.{answerBytes, overwrite};
+ghost use Rattle.endpoint.specs.Checks.{isUntimely};
 ghost use Rattle.listener.specs.Table.{pendingAt};
-ghost use Rattle.listener.specs.View.{isUntimely, ownAddress};
+ghost use Rattle.listener.specs.View.{ownAddress};
 ghost use Rattle.listener.specs.Call.{Call};
 ghost use Rattle.listener.specs.Refusals.{wireChecks, isReleasable, releaseOf};
 ghost use Rattle.listener.specs.Step.{blank, freshListener, neverStarted, startOf, segmentAfter, answerFrom, step, outputOf, pendingNumber};
@@ -127,11 +130,7 @@ fn fresh_listener(own: &[u8], port: u16, key: &[u8]) -> Listener
 {
     let block = block_of(own);
     let present = expand_key(key_of(key));
-    let family = if own.len() == 4 {
-        Family::V4
-    } else {
-        Family::V6
-    };
+    let family = family_of(own.len());
     let home = Home {
         started: true,
         family,
@@ -159,11 +158,8 @@ fn refused_start(why: Refusal) -> Started
 pub fn start(own: &[u8], port: u16, key: &[u8]) -> Started
     ensures { λ r. ⌜ r ≡ startOf (now (own .entry)) port (now (key .entry)) ⌝ }
 {
-    let n = own.len();
-    if n != 4 {
-        if n != 16 {
-            return refused_start(Refusal::Address);
-        }
+    if !is_size(own.len()) {
+        return refused_start(Refusal::Address);
     }
     if key.len() != 16 {
         return refused_start(Refusal::Range);
@@ -281,7 +277,7 @@ pub fn set_settings(mut l: Listener, time: u64, g: Settings) -> Outcome
     ensures { λ r. ⌜ r ≡ step l (Call.settings time g) ⌝ }
 {
     let home = l.home;
-    match check_time(home, l.clock, time) {
+    match check_time(home.started, l.clock, time) {
         Check::Refused(why) => refused(l, why),
         Check::Clear => {
             if !is_in_range(g) {
@@ -306,7 +302,7 @@ pub fn set_key(mut l: Listener, time: u64, key: &[u8]) -> Outcome
     ensures { λ r. ⌜ r ≡ step l (Call.key time (now (key .entry))) ⌝ }
 {
     let home = l.home;
-    match check_time(home, l.clock, time) {
+    match check_time(home.started, l.clock, time) {
         Check::Refused(why) => refused(l, why),
         Check::Clear => {
             if key.len() != 16 {
@@ -331,7 +327,8 @@ fn free_named(l: Listener, time: u64, addr: &[u8], port: u16, established: bool)
     ensures { λ r. ⌜ r ≡ step l (releaseOf established time (now (addr .entry)) port) ⌝ }
 {
     let home = l.home;
-    match check_name(home, l.clock, time, addr) {
+    let family = home.family;
+    match check_name(home.started, family, l.clock, time, addr) {
         Check::Refused(why) => refused(l, why),
         Check::Clear => {
             let b = block_of(addr);

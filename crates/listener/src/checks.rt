@@ -1,14 +1,13 @@
-// The checks of the calls, in document 01's order.
-use crate::address::is_address;
-use crate::address::size_of;
+// The checks of the calls, in document 01's order; 13, 5 and 2 are endpoint's.
 use crate::state::Home;
 use crate::state::Settings;
 use crate::state::View;
-use crate::state::is_untimely;
 use crate::table::Slot;
 use crate::table::accepted_with;
 use crate::table::is_free;
 use crate::table::is_waiting;
+use endpoint::address::size_of;
+use endpoint::checks::check_name;
 use segment::checksum::is_checksum_right;
 use segment::header::Header;
 use segment::header::Kind;
@@ -22,44 +21,15 @@ ghost use mathlib.Core.Path.{_≡_};
 ghost use mathlib.Core.List.{_++_};
 ghost use Rattle.segment.specs.Refusal.{refusal};
 ghost use Rattle.segment.specs.Header.{fieldsOf};
-ghost use Rattle.listener.specs.View.{isUntimely};
-ghost use Rattle.listener.specs.Refusals.{inRange, repeats, completes, resets, expected, timely, addressed, roomy, sequenceChecks, kindChecks, wireChecks, received};
-
-// 13 and 5.
-pub(crate) fn check_time(home: Home, clock: u64, time: u64) -> Check
-    ensures { λ r. ⌜ r ≡ refusal (timely home (isUntimely clock time)) ⌝ }
-{
-    if !home.started {
-        return Check::Refused(Refusal::NotStarted);
-    }
-    if is_untimely(clock, time) {
-        return Check::Refused(Refusal::Time);
-    }
-    Check::Clear
-}
-
-// 13, 5 and 2.
-pub(crate) fn check_name(home: Home, clock: u64, time: u64, addr: &[u8]) -> Check
-    ensures { λ r. ⌜ r ≡ refusal (timely home (isUntimely clock time) ++ addressed home (now (addr .entry))) ⌝ }
-{
-    match check_time(home, clock, time) {
-        Check::Refused(why) => Check::Refused(why),
-        Check::Clear => {
-            let family = home.family;
-            if is_address(family, addr) {
-                Check::Clear
-            } else {
-                Check::Refused(Refusal::Address)
-            }
-        }
-    }
-}
+ghost use Rattle.endpoint.specs.Checks.{isUntimely, timely, addressed};
+ghost use Rattle.listener.specs.Refusals.{inRange, repeats, completes, resets, expected, roomy, sequenceChecks, kindChecks, wireChecks, received};
 
 // 13, 5, 2 and 11: the longest answer has 36 bytes.
 pub(crate) fn check_output(home: Home, clock: u64, time: u64, addr: &[u8], room: usize) -> Check
-    ensures { λ r. ⌜ r ≡ refusal (timely home (isUntimely clock time) ++ addressed home (now (addr .entry)) ++ roomy room) ⌝ }
+    ensures { λ r. ⌜ r ≡ refusal (timely (home .started) (isUntimely clock time) ++ addressed (home .family) (now (addr .entry)) ++ roomy room) ⌝ }
 {
-    match check_name(home, clock, time, addr) {
+    let family = home.family;
+    match check_name(home.started, family, clock, time, addr) {
         Check::Refused(why) => Check::Refused(why),
         Check::Clear => {
             if room < 36 {

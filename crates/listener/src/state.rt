@@ -1,11 +1,12 @@
 // The listener's state.
-use crate::address::Family;
 use crate::table::Scan;
 use crate::table::Slot;
 use crate::table::Status;
+use endpoint::address::Family;
+use endpoint::checks::is_untimely;
 ghost use mathlib.Core.Path.{_≡_};
 ghost use Rattle.listener.specs.Table.{freeSlot};
-ghost use Rattle.listener.specs.View.{isUntimely, slotAt, viewFrom};
+ghost use Rattle.listener.specs.View.{slotAt, viewFrom};
 ghost use Rattle.listener.specs.Step.{put, moved};
 
 // What a settings call asks for. `room` is document 01's early room, in bytes; `hold` is in ms.
@@ -85,15 +86,6 @@ fn slot_at(l: Listener, i: usize) -> Slot
         return l.slots[i];
     }
     free_slot()
-}
-
-pub(crate) fn is_untimely(clock: u64, time: u64) -> bool
-    ensures { λ r. ⌜ r ≡ isUntimely clock time ⌝ }
-{
-    if time < clock {
-        return true;
-    }
-    281474976710656 < time
 }
 
 // What a call sees, given what its scan found.

@@ -1,10 +1,8 @@
 // The table's slots, and the scan that a call makes of them.
 use crate::state::Listener;
+use endpoint::address::same_name;
 ghost use mathlib.Core.Path.{_≡_};
-ghost use mathlib.Core.Bool.{_&&_};
 ghost use Prim.Native.Nat.{_<_};
-ghost use lib.Dec.{eqb};
-ghost use Rattle.listener.specs.Lists.{sameBytes};
 ghost use Rattle.listener.specs.Table.{isLive, isPending, isWaiting, isEstablished, isFree, acceptedWith, afterReset, withStatus, holdsPeer, scanOf};
 ghost use Rattle.listener.specs.Scan.{firstPlace, countIf, seenWith};
 
@@ -131,19 +129,6 @@ pub(crate) fn with_status(s: Slot, status: Status) -> Slot
         iss: s.iss,
         status,
     }
-}
-
-// Whether two names are the same: both ports and every byte of the blocks are compared, with no early exit.
-fn same_name(p: u16, q: u16, a: [u8; 16], b: [u8; 16]) -> bool
-    ensures { λ r. ⌜ r ≡ eqb p q && sameBytes a b ⌝ }
-{
-    let mut same = p == q;
-    for i in 0..16 {
-        if a[i] != b[i] {
-            same = false;
-        }
-    }
-    same
 }
 
 // Whether the slot holds a connection of this name at the time.

@@ -1,8 +1,8 @@
 -- `listener::calls::fresh_listener` meets its contract: family, block and round keys are the definition's.
 -- Assumes nothing.
 use mathlib.Core.Path.{_∙_}
-use mathlib.Core.Logic.{⊎-elim}
-use Rattle.listener.proofs.Parts.{four-bytes, other-bytes, fresh-made}
+use Rattle.endpoint.proofs.Blocks.{kept}
+use Rattle.listener.proofs.Parts.{fresh-made}
 use borrow.Author.Needs.{needs}
 use Rattle.listener.proofs.calls.fresh_listener.Statement.{statement}
 use Rattle.listener.proofs.calls.fresh_listener.Tie as tie
@@ -16,14 +16,18 @@ key-of-requires c κs = search needs
 expand-key-requires : tie.Need-expand-key-requires
 expand-key-requires c κs = search needs
 
+family-of-requires : tie.Need-family-of-requires
+family-of-requires c κs = search needs
+
 blank-listener-requires : tie.Need-blank-listener-requires
 blank-listener-requires c κs = search needs
 
 returns : tie.Need-returns
 returns c =
-    let a = c .before .before .before .before .before .before .before .args in
-    let family = ⊎-elim (λ w. four-bytes (a .own .now) (w .1) (w .0 .taken)) (λ w. other-bytes (a .own .now) (w .1) (w .0 .left)) (c .before .if1 .came) in
-    c .blank-listener .ensures ∙ fresh-made (a .own .now) (a .port) (a .key .now) family (c .before .before .before .before .block-of .ensures) (rw (c .before .before .before .key-of .ensures) at (c .before .before .expand-key .ensures))
+    let s = c .before .before .before .before .before .before .before in
+    let a = s .args in
+    let own = kept (a .own .now) (s .pre .0) (c .before .before .before .before .block-of .ensures) in
+    c .blank-listener .ensures ∙ fresh-made (a .own .now) (a .port) (a .key .now) (c .before .family-of .ensures) own (rw (c .before .before .before .key-of .ensures) at (c .before .before .expand-key .ensures))
 
 pub fresh-listener-spec : {M : Type 1} → statement M
 fresh-listener-spec =
@@ -32,5 +36,6 @@ fresh-listener-spec =
     block-of-requires
     key-of-requires
     expand-key-requires
+    family-of-requires
     blank-listener-requires
     returns)

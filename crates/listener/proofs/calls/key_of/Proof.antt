@@ -1,6 +1,6 @@
 -- `listener::calls::key_of` meets its contract: the array has the key's bytes.
 -- Assumes nothing.
-use Rattle.listener.proofs.Blocks.{copied-whole}
+use Rattle.endpoint.proofs.Blocks.{copied-whole}
 use borrow.Author.Needs.{needs}
 use Rattle.listener.proofs.calls.key_of.Statement.{statement}
 use Rattle.listener.proofs.calls.key_of.Tie as tie

@@ -1,6 +1,6 @@
 -- `listener::calls::write_from` meets its contract: the answer's fields come from the slot.
 -- Assumes nothing.
-use Rattle.listener.proofs.Receiving.{own-most, own-part}
+use Rattle.endpoint.proofs.Blocks.{own-most, own-part}
 use borrow.Author.Needs.{needs}
 use Rattle.listener.proofs.calls.write_from.Statement.{statement}
 use Rattle.listener.proofs.calls.write_from.Tie as tie

@@ -1,8 +1,8 @@
 -- `listener::checks::check_output` meets its contract: the checks before, then the room.
 -- Assumes nothing.
 use mathlib.Core.Path.{sym, _∙_}
+use Rattle.endpoint.specs.Checks.{isUntimely}
 use Rattle.listener.proofs.Judging.{output-stopped, output-enough, output-short}
-use Rattle.listener.specs.View.{isUntimely}
 use borrow.Author.Needs.{needs}
 use Rattle.listener.proofs.checks.check_output.Statement.{statement}
 use Rattle.listener.proofs.checks.check_output.Tie as tie

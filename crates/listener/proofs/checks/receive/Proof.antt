@@ -1,9 +1,10 @@
 -- `listener::checks::receive` meets its contract: the checks before, then shape, checksum and port.
 -- Assumes nothing.
-use Rattle.listener.specs.View.{isUntimely}
+use Rattle.endpoint.specs.Checks.{isUntimely}
 use mathlib.Core.Path.{sym, _∙_}
 use borrow.Author.Tests.{not-true, not-false}
-use Rattle.listener.proofs.Receiving.{own-most, own-part, dropped-before, dropped-shape, dropped-sum, dropped-port, read}
+use Rattle.endpoint.proofs.Blocks.{own-most, own-part}
+use Rattle.listener.proofs.Receiving.{dropped-before, dropped-shape, dropped-sum, dropped-port, read}
 use borrow.Author.Needs.{needs}
 use Rattle.listener.proofs.checks.receive.Statement.{statement}
 use Rattle.listener.proofs.checks.receive.Tie as tie

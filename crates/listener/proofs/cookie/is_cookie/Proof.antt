@@ -6,8 +6,8 @@ use mathlib.Core.Bool.{_&&_}
 use mathlib.Core.Logic.{⊎-elim}
 use native.Mathlib.Omega.{arith}
 use lib.ListN.{length, drop}
-use Rattle.listener.specs.Lists.{sameBytes}
-use Rattle.listener.proofs.Comparing.{unlike, differ, agree, at-end}
+use Rattle.endpoint.specs.Lists.{sameBytes}
+use Rattle.endpoint.proofs.Comparing.{unlike, differ, agree, at-end}
 use borrow.Author.Needs.{needs}
 use Rattle.listener.proofs.cookie.is_cookie.Statement.{statement}
 use Rattle.listener.proofs.cookie.is_cookie.Tie as tie

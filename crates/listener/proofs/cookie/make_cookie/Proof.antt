@@ -1,7 +1,7 @@
 -- `listener::cookie::make_cookie` meets its contract: the first eight bytes of the block.
 -- Assumes nothing.
 use Rattle.listener.specs.Cookie.{cookieUnder}
-use Rattle.listener.proofs.Blocks.{first-eight}
+use Rattle.listener.proofs.Cookies.{first-eight}
 use borrow.Author.Needs.{needs}
 use Rattle.listener.proofs.cookie.make_cookie.Statement.{statement}
 use Rattle.listener.proofs.cookie.make_cookie.Tie as tie

@@ -3,8 +3,8 @@
 use mathlib.Core.Path.{_≡_, sym, _∙_}
 use native.Mathlib.Omega.{arith}
 use lib.ListN.{length, length-map, List·getD-eq-default}
+use Rattle.endpoint.proofs.Sums.{present}
 use Rattle.listener.specs.Table.{freeSlot}
-use Rattle.listener.proofs.Scanning.{present}
 use borrow.Author.Needs.{needs}
 use Rattle.listener.proofs.state.slot_at.Statement.{statement}
 use Rattle.listener.proofs.state.slot_at.Tie as tie

@@ -4,10 +4,11 @@ use Prim.Native.Nat.{_-_, _≤_, _<_}
 use mathlib.Core.Path.{_≡_, ap, _∙_}
 use native.Mathlib.Omega.{arith}
 use lib.ListN.{length, length-map}
+use Rattle.endpoint.proofs.Sums.{present}
 use Rattle.listener.specs.Table.{freeSlot}
 use Rattle.listener.specs.Scan.{seenWith}
 use Rattle.listener.specs.declared.table.Slot.{Slot}
-use Rattle.listener.proofs.Scanning.{present, Seen, seen-start, seen-on, seen-end}
+use Rattle.listener.proofs.Scanning.{Seen, seen-start, seen-on, seen-end}
 use borrow.Author.Needs.{needs}
 use Rattle.listener.proofs.table.scan_table.Statement.{statement}
 use Rattle.listener.proofs.table.scan_table.Tie as tie

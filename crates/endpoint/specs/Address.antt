@@ -2,17 +2,25 @@
 -- Assumes nothing.
 use Prim.Native.Nat.{ℕ, _-_}
 use mathlib.Core.List.{List, _++_}
-use mathlib.Core.Bool.{Bool, _&&_}
+use mathlib.Core.Bool.{Bool, cond, _&&_, _||_}
 use lib.Dec.{eqb}
 use lib.ListN.{length, replicate}
-use Rattle.listener.specs.Lists.{sameBytes}
-use Rattle.listener.specs.declared.address.Family.{Family}
-use Rattle.listener.specs.declared.address.Family.the-variants.{V4, V6}
+use Rattle.endpoint.specs.Lists.{sameBytes}
+use Rattle.endpoint.specs.declared.address.Family.{Family}
+use Rattle.endpoint.specs.declared.address.Family.the-variants.{V4, V6}
 
 -- how many bytes an address of the family has
 abbrev pub size : Family → ℕ
 size V4 = 4
 size V6 = 16
+
+-- the lengths that addresses have
+abbrev pub isSize : ℕ → Bool
+isSize n = eqb n 4 || eqb n 16
+
+-- the family of addresses of such a length
+abbrev pub familyOf : ℕ → Family
+familyOf n = cond (eqb n 4) V4 V6
 
 -- not refusal 2: the address is of the family fixed at the start
 abbrev pub isAddress : Family → List ℕ → Bool

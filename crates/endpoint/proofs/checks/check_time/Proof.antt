@@ -1,9 +1,9 @@
--- `listener::checks::check_time` meets its contract: each test with its refusal.
+-- `endpoint::checks::check_time` meets its contract: each test with its refusal.
 -- Assumes nothing.
 use mathlib.Core.Path.{sym, _∙_}
 use borrow.Author.Needs.{needs}
-use Rattle.listener.proofs.checks.check_time.Statement.{statement}
-use Rattle.listener.proofs.checks.check_time.Tie as tie
+use Rattle.endpoint.proofs.checks.check_time.Statement.{statement}
+use Rattle.endpoint.proofs.checks.check_time.Tie as tie
 
 returns : tie.Need-returns
 returns c = simp (c .if1 .taken)

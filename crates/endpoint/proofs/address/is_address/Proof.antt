@@ -1,12 +1,12 @@
--- `listener::address::is_address` meets its contract: the lengths are compared.
+-- `endpoint::address::is_address` meets its contract: the lengths are compared.
 -- Assumes nothing.
 use mathlib.Core.Path.{ap}
 use Prim.Native.Nat.{ℕ}
 use lib.Dec.{eqb}
 use lib.ListN.{length}
 use borrow.Author.Needs.{needs}
-use Rattle.listener.proofs.address.is_address.Statement.{statement}
-use Rattle.listener.proofs.address.is_address.Tie as tie
+use Rattle.endpoint.proofs.address.is_address.Statement.{statement}
+use Rattle.endpoint.proofs.address.is_address.Tie as tie
 
 size-of-requires : tie.Need-size-of-requires
 size-of-requires c κs = search needs

@@ -7,8 +7,8 @@ use borrow.Author.Tests.{eqb-true, eq-eqb}
 use lib.Dec.{eqb}
 use lib.ListN.{length, take, replicate}
 use lib.Seq.{take-at}
-use Rattle.listener.specs.Lists.{sameBytes}
-use Rattle.listener.specs.Address.{Peer, samePeer, block}
+use Rattle.endpoint.specs.Lists.{sameBytes}
+use Rattle.endpoint.specs.Address.{Peer, samePeer, block}
 
 -- two tests that pass together are one
 pub one-test : (a b : Bool) → (a ≡ true → b ≡ true) → (b ≡ true → a ≡ true) → a ≡ b

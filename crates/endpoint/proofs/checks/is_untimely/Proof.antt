@@ -1,8 +1,8 @@
--- `listener::state::is_untimely` meets its contract: each bound in turn.
+-- `endpoint::checks::is_untimely` meets its contract: each bound in turn.
 -- Assumes nothing.
 use borrow.Author.Tests.{lt-ltb, le-ltb}
-use Rattle.listener.proofs.state.is_untimely.Statement.{statement}
-use Rattle.listener.proofs.state.is_untimely.Tie as tie
+use Rattle.endpoint.proofs.checks.is_untimely.Statement.{statement}
+use Rattle.endpoint.proofs.checks.is_untimely.Tie as tie
 
 returns : tie.Need-returns
 returns c = simp (lt-ltb _ _ (c .if1 .taken))

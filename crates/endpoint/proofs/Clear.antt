@@ -9,7 +9,7 @@ use Rattle.segment.specs.declared.refusal.Refusal.the-variants.{Format, Address
 use Rattle.segment.specs.declared.refusal.Check.the-variants.{Clear}
 use Rattle.segment.proofs.Bools.{or-false}
 use Rattle.segment.proofs.Numbers.{None, none-applies}
-use Rattle.listener.proofs.Sums.{All}
+use Rattle.endpoint.proofs.Sums.{All}
 
 -- every refusal has a place in the order
 ordered : (cs : Checks) → None order cs → (r : Refusal) → applies cs r ≡ false

@@ -1,4 +1,4 @@
--- Sums of a weight over a list, the first place of a test, and amendments. Assumes nothing.
+-- Elements of a list, sums of a weight over it, the first place of a test, amendments, and rules that hold of every element. Assumes nothing.
 use Prim.Native.Nat.{ℕ, zero, suc, _+_, _≤_, _<_}
 use mathlib.Core.Path.{_≡_, refl, sym, ap, ap₂, _∙_}
 use mathlib.Core.Bool.{Bool, true, false, cond}
@@ -6,9 +6,15 @@ use mathlib.Core.List.{List, [], _∷_, _++_, append-assoc}
 use native.Mathlib.Omega.{arith}
 use native.Mathlib.Nat.{le-of-suc-le-suc, not-suc-le-zero}
 use lib.ListN.{length, getD, set, replicate}
-use Rattle.listener.specs.Lists.{bit, sum, tally, firstIndex, amend}
+use Rattle.endpoint.specs.Lists.{bit, sum, tally, firstIndex, amend}
 
 module _ {A : Type 0} where
+  -- an element that is there is the same whatever stands in for one that is not
+  pub present : (xs : List A) (i : ℕ) (d e : A) → i < length xs → getD xs i d ≡ getD xs i e
+  present [] i d e h = absurd (not-suc-le-zero h)
+  present (x ∷ xs) zero d e h = refl
+  present (x ∷ xs) (suc i) d e h = present xs i d e (le-of-suc-le-suc h)
+
   -- Sums
 
   pub sum-ext : (u v : A → ℕ) → ((x : A) → u x ≡ v x) → (xs : List A) → sum u xs ≡ sum v xs
