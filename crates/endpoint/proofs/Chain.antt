@@ -28,13 +28,16 @@ abbrev pub chain : List (Bool × Refusal) → Check → Check
 chain [] x = x
 chain (c ∷ cs) x = cond (c .0) (Refused (c .1)) (chain cs x)
 
-pub chain-then : (cs : List (Bool × Refusal)) (x : Check) → chain cs x ≡ andThen (chain cs Clear) x
-chain-then [] x = refl
-chain-then (c ∷ cs) x = go (c .0) (chain-then cs x)
+pub chain-into : (cs : List (Bool × Refusal)) (x y : Check) → chain cs (andThen x y) ≡ andThen (chain cs x) y
+chain-into [] x y = refl
+chain-into (c ∷ cs) x y = go (c .0) (chain-into cs x y)
   where
-    go : (b : Bool) → chain cs x ≡ andThen (chain cs Clear) x → cond b (Refused (c .1)) (chain cs x) ≡ andThen (cond b (Refused (c .1)) (chain cs Clear)) x
+    go : (b : Bool) → chain cs (andThen x y) ≡ andThen (chain cs x) y → cond b (Refused (c .1)) (chain cs (andThen x y)) ≡ andThen (cond b (Refused (c .1)) (chain cs x)) y
     go true e = refl
     go false e = e
+
+pub chain-then : (cs : List (Bool × Refusal)) (x : Check) → chain cs x ≡ andThen (chain cs Clear) x
+chain-then cs x = chain-into cs Clear x
 
 -- the first of two checks decides, or is passed
 pub stopped : (x y z : Check) {r : Refusal} → x ≡ andThen y z → y ≡ Refused r → x ≡ Refused r

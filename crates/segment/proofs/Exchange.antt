@@ -95,6 +95,11 @@ opening-can src dst o cookie payload room e s p r =
     let m = options-most (o .mss) (o .fast) cookie s in
     can-write src dst (openingFields o) cookie payload room e s (omega arith) (omega arith)
 
+pub opening-length : (src dst : List ℕ) (o : Opening) (cookie payload : List ℕ) (room : ℕ) → canWrite src dst (openingFields o) cookie payload room ≡ true
+    → length (openingBytes src dst o cookie payload room) ≡ lengthFor (openingFields o) cookie payload
+unfolding openingBytes written
+opening-length src dst o cookie payload room can = rw can (segment-length src dst (openingFields o) (optionsFor (openingFields o) cookie) payload)
+
 -- Read by the other end
 
 next-fits : (initial bytes : ℕ) → nextAfter initial bytes < 4294967296

@@ -5,7 +5,7 @@ use crate::number::word_at;
 ghost use mathlib.Core.Path.{_≡_};
 ghost use Prim.Native.Nat.{_+_, _≤_};
 ghost use lib.ListN.{length, take, drop};
-ghost use Rattle.segment.specs.Options.{mssOption, fastOpenOption, firstMss, firstFastOpen, withOption, readOptions, optionsOf, cookieBytes};
+ghost use Rattle.segment.specs.Options.{mssOption, isCookieLength, fastOpenOption, firstMss, firstFastOpen, withOption, readOptions, optionsOf, cookieBytes};
 
 // The maximum segment size, if an option gave one.
 pub enum Mss {
@@ -26,7 +26,8 @@ pub struct Options {
     pub fast: FastOpen,
 }
 
-fn first_mss(found: Mss, next: Mss) -> Mss
+// The first of two, if it was given.
+pub fn first_mss(found: Mss, next: Mss) -> Mss
     ensures { λ r. ⌜ r ≡ firstMss found next ⌝ }
 {
     match found {
@@ -57,6 +58,19 @@ fn mss_option(area: &[u8], i: usize, len: usize) -> Mss
     Mss::NotGiven
 }
 
+// Whether a cookie may have n bytes.
+pub fn is_cookie_length(n: usize) -> bool
+    ensures { λ r. ⌜ r ≡ isCookieLength n ⌝ }
+{
+    if n < 4 {
+        return false;
+    }
+    if 16 < n {
+        return false;
+    }
+    n % 2 == 0
+}
+
 fn fast_open_option(area: &[u8], i: usize, len: usize) -> FastOpen
     requires { ⌜ (2 ≤ len) × (i + len ≤ length (now area)) ⌝ }
     ensures { λ r. ⌜ r ≡ fastOpenOption (now (area .entry)) i len ⌝ }
@@ -66,12 +80,8 @@ fn fast_open_option(area: &[u8], i: usize, len: usize) -> FastOpen
         if n == 0 {
             return FastOpen::Request;
         }
-        if 4 <= n {
-            if n <= 16 {
-                if n % 2 == 0 {
-                    return FastOpen::Cookie { at: i + 2, len: n };
-                }
-            }
+        if is_cookie_length(n) {
+            return FastOpen::Cookie { at: i + 2, len: n };
         }
     }
     FastOpen::Absent

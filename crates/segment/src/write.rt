@@ -8,6 +8,7 @@ use crate::checksum::is_one_family;
 use crate::checksum::pseudo_sum;
 use crate::header::ACK;
 use crate::header::SYN;
+use crate::options::is_cookie_length;
 use crate::sequence::next_after;
 ghost use mathlib.Core.Path.{_≡_};
 ghost use mathlib.Core.Bool.{true, cond};
@@ -152,13 +153,7 @@ fn option_length(f: Outgoing, cookie: &[u8]) -> usize
     if n == 0 {
         return 8;
     }
-    if n < 4 {
-        return 0;
-    }
-    if 16 < n {
-        return 0;
-    }
-    if n % 2 != 0 {
+    if !is_cookie_length(n) {
         return 0;
     }
     4 + (n + 5) / 4 * 4
