@@ -1,0 +1,177 @@
+-- What each call answers, refused and done, from what its checks come to. Assumes nothing.
+use Prim.Native.Nat.{ℕ, _≤_, _^_}
+use mathlib.Core.Path.{_≡_, refl, sym, ap, _∙_}
+use mathlib.Core.Bool.{Bool}
+use mathlib.Core.List.{List, [], _++_}
+use native.Mathlib.Omega.{arith}
+use lib.Dec.{leb}
+use lib.ListN.{length, take}
+use borrow.Author.Tests.{not-false, leb-true}
+use Rattle.segment.specs.Refusal.{Checks, refusal}
+use Rattle.segment.specs.Header.{fieldsOf}
+use Rattle.segment.specs.Options.{optionsOf}
+use Rattle.segment.specs.Write.{overwrite, openingBytes}
+use Rattle.segment.specs.declared.refusal.Refusal.{Refusal}
+use Rattle.segment.specs.declared.refusal.Check.{Check}
+use Rattle.segment.specs.declared.refusal.Check.the-variants.{Clear, Refused}
+use Rattle.segment.proofs.Bools.{and-true}
+use Rattle.endpoint.specs.Address.{block}
+use Rattle.endpoint.specs.Checks.{isUntimely, timely, addressed}
+use Rattle.endpoint.proofs.Blocks.{family-short, kept}
+use Rattle.endpoint.proofs.Chain.{time-most, named-short}
+use Rattle.endpoint.proofs.Clear.{every-check}
+use Rattle.client.specs.Cache.{cookieLength, entryFor}
+use Rattle.client.specs.Bans.{isBanned, banned}
+use Rattle.client.specs.Call.{Call, connect, answer, failed}
+use Rattle.client.specs.Refusals.{isMss, countIn, openChecks, answerChecks, judged, judgedReply}
+use Rattle.client.specs.Step.{openingFor, sentWith, cookieIn, cacheAfter, isNegative, bansAfter, moved, after, doneEvent, doneOutput, outcomeOf, step, outputIf, outputOf}
+use Rattle.client.specs.declared.answer.ActiveOpen.{ActiveOpen}
+use Rattle.client.specs.declared.answer.Attempt.{Attempt}
+use Rattle.client.specs.declared.answer.Event.the-variants as events
+use Rattle.client.specs.declared.answer.Outcome.{Outcome}
+use Rattle.client.specs.declared.cache.Entry.{Entry}
+use Rattle.client.specs.declared.checks.Reply.{Reply}
+use Rattle.client.specs.declared.checks.Reply.the-variants.{Dropped, Acknowledged}
+use Rattle.client.specs.declared.state.Memory.{Memory}
+
+abbrev pub refusedWith : Memory → Refusal → Outcome
+refusedWith m r = record { memory = m; event = events.Refused r; written = 0 }
+
+-- A call is refused or done
+
+module _ (m : Memory) (c : Call) where
+  pub step-refused : {r : Refusal} → judged m c ≡ Refused r → step m c ≡ refusedWith m r
+  unfolding step
+  step-refused e = ap (outcomeOf m c) e
+
+  pub step-done : judged m c ≡ Clear → step m c ≡ record { memory = after m c; event = doneEvent m c; written = length (doneOutput m c) }
+  unfolding step
+  step-done e = ap (outcomeOf m c) e
+
+  output-refused : {r : Refusal} → judged m c ≡ Refused r → outputOf m c ≡ []
+  unfolding outputOf
+  output-refused e = ap (outputIf m c) e
+
+  output-done : judged m c ≡ Clear → outputOf m c ≡ doneOutput m c
+  unfolding outputOf
+  output-done e = ap (outputIf m c) e
+
+-- Opening
+
+module _ (m : Memory) (t : ℕ) (own server : List ℕ) (o : ActiveOpen) (offered out : List ℕ) where
+  abbrev opening : Call
+  opening = connect t own server o offered (length out)
+
+  abbrev Open : Check
+  Open = refusal (openChecks (m .started) (m .family) (isUntimely (m .clock) t) own server (o .mss) (length out))
+
+  open-judged : judged m opening ≡ Open
+  unfolding judged
+  open-judged = refl
+
+  pub open-refused : {r : Refusal} {x : Outcome} → x ≡ refusedWith m r → Open ≡ Refused r → (x ≡ step m opening) × (out ≡ overwrite (outputOf m opening) out)
+  open-refused k e = (k ∙ sym (step-refused m opening (open-judged ∙ e)), rw (output-refused m opening (open-judged ∙ e)) refl)
+
+  module _ (clear : Open ≡ Clear) where
+    pub open-kept : {b : List ℕ} → b ≡ block (take 16 server) → b ≡ block server
+    open-kept e =
+        let p = every-check (openChecks (m .started) (m .family) (isUntimely (m .clock) t) own server (o .mss) (length out)) clear in
+        kept server (family-short (m .family) server (not-false _ (p .1 .1 .1 .0))) e
+
+    -- own MSS fits two bytes
+    pub open-mss : o .mss ≤ 1460
+    unfolding isMss
+    open-mss =
+        let p = every-check (openChecks (m .started) (m .family) (isUntimely (m .clock) t) own server (o .mss) (length out)) clear in
+        leb-true (o .mss) 1460 (and-true (leb 536 (o .mss)) (leb (o .mss) 1460) (not-false _ (p .1 .1 .1 .1 .1 .0)) .1)
+
+    module _ (b : List ℕ) (bn : Bool) (e : Entry) (n len w : ℕ) (next : Memory) (out′ : List ℕ) where
+      pub open-done : b ≡ block server → bn ≡ isBanned t b (o .dest) (m .bans) → e ≡ entryFor b (m .cache) → n ≡ sentWith (m .family) bn e (length offered)
+          → len ≡ cookieLength e
+          → w ≡ length (openingBytes own server (openingFor bn o) (take len (e .cookie)) (take n offered) (length out))
+          → out′ ≡ overwrite (openingBytes own server (openingFor bn o) (take len (e .cookie)) (take n offered) (length out)) out
+          → next ≡ moved m t (m .cache) (m .bans)
+          → (record { memory = next; event = events.Opened n; written = w } ≡ step m opening) × (out′ ≡ overwrite (outputOf m opening) out)
+      unfolding after
+      open-done eb eg ee en el ew eo ex =
+          let done = step-done m opening (open-judged ∙ clear) in
+          let write = output-done m opening (open-judged ∙ clear) in
+          (rw (ew, ex, el, en, ee, eg, eb) (sym done), rw (eo, el, en, ee, eg, eb, write) refl)
+
+-- Answer
+
+abbrev counted : Check → Attempt → List ℕ → Reply
+counted c a seg = judgedReply c a (fieldsOf seg)
+
+was-dropped : (c : Check) (a : Attempt) (seg : List ℕ) {r : Refusal} → counted c a seg ≡ Dropped r → c ≡ Refused r
+was-dropped Clear a seg e = absurd (let z : _≡_ {A = ℕ} 0 1 = cc in omega arith)
+was-dropped (Refused r) a seg e = cc
+
+was-counted : (c : Check) (a : Attempt) (seg : List ℕ) {n : ℕ} → counted c a seg ≡ Acknowledged n → (c ≡ Clear) × (n ≡ countIn a (fieldsOf seg))
+was-counted Clear a seg e = (refl, cc)
+was-counted (Refused r) a seg e = absurd (let z : _≡_ {A = ℕ} 0 1 = cc in omega arith)
+
+module _ (m : Memory) (t : ℕ) (own server : List ℕ) (a : Attempt) (seg : List ℕ) where
+  abbrev answering : Call
+  answering = answer t own server a seg
+
+  abbrev theChecks : Checks
+  theChecks = answerChecks (m .started) (m .family) (isUntimely (m .clock) t) own server a seg
+
+  abbrev pub Said : Reply
+  Said = counted (refusal theChecks) a seg
+
+  answer-judged : judged m answering ≡ refusal theChecks
+  unfolding judged
+  answer-judged = refl
+
+  pub answer-refused : {r : Refusal} {x : Outcome} → x ≡ refusedWith m r → Said ≡ Dropped r → x ≡ step m answering
+  answer-refused k e = k ∙ sym (step-refused m answering (answer-judged ∙ was-dropped (refusal theChecks) a seg e))
+
+  module _ {n : ℕ} (said : Said ≡ Acknowledged n) where
+    clear : refusal theChecks ≡ Clear
+    clear = was-counted (refusal theChecks) a seg said .0
+
+    pub answer-kept : {b : List ℕ} → b ≡ block (take 16 server) → b ≡ block server
+    answer-kept e =
+        let p = every-check theChecks clear in
+        kept server (family-short (m .family) server (not-false _ (p .1 .1 .1 .0))) e
+
+    pub answer-time : t ≤ 2 ^ 48
+    answer-time = time-most (m .clock) t (every-check theChecks clear .1 .0)
+
+    pub answer-done : (next : Memory)
+        → next ≡ moved m t (cacheAfter (block server) (cookieIn seg) (optionsOf seg .mss) (m .cache)) (bansAfter t (block server) (a .dest) (isNegative (a .sent) n) (m .bans))
+        → record { memory = next; event = events.Answered n; written = 0 } ≡ step m answering
+    unfolding after
+    answer-done next e =
+        let done = step-done m answering (answer-judged ∙ clear) in
+        rw (e, was-counted (refusal theChecks) a seg said .1) (sym done)
+
+-- Failure
+
+module _ (m : Memory) (t : ℕ) (server : List ℕ) (port : ℕ) where
+  abbrev failing : Call
+  failing = failed t server port
+
+  abbrev Named : Check
+  Named = refusal (timely (m .started) (isUntimely (m .clock) t) ++ addressed (m .family) server)
+
+  failed-judged : judged m failing ≡ Named
+  unfolding judged
+  failed-judged = refl
+
+  pub failed-refused : {r : Refusal} {x : Outcome} → x ≡ refusedWith m r → Named ≡ Refused r → x ≡ step m failing
+  failed-refused k e = k ∙ sym (step-refused m failing (failed-judged ∙ e))
+
+  module _ (clear : Named ≡ Clear) where
+    pub failed-kept : {b : List ℕ} → b ≡ block (take 16 server) → b ≡ block server
+    failed-kept e = kept server (named-short (m .started) (isUntimely (m .clock) t) (m .family) server clear) e
+
+    pub failed-time : t ≤ 2 ^ 48
+    failed-time = time-most (m .clock) t (every-check (timely (m .started) (isUntimely (m .clock) t) ++ addressed (m .family) server) clear .1 .0)
+
+    pub failed-done : (next : Memory) → next ≡ moved m t (m .cache) (banned t (block server) port (m .bans))
+        → record { memory = next; event = events.Noted; written = 0 } ≡ step m failing
+    unfolding after
+    failed-done next e = rw e (sym (step-done m failing (failed-judged ∙ clear)))

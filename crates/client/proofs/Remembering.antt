@@ -1,0 +1,155 @@
+-- After any calls the memory holds what a record of them says, no ban stands twice, and the clock never falls. Assumes nothing.
+use Prim.Native.Nat.{ℕ, _≤_}
+use mathlib.Core.Path.{_≡_, refl, ap, _∙_}
+use mathlib.Core.Bool.{Bool, true, false, cond}
+use mathlib.Core.List.{List, [], _∷_, _++_}
+use native.Mathlib.Omega.{arith}
+use lib.Dec.{ltb}
+use lib.ListN.{length}
+use borrow.Author.Tests.{eqb-true, ne-eqb, ltb-false, not-false}
+use Rattle.segment.specs.Header.{fieldsOf}
+use Rattle.segment.specs.Options.{optionsOf}
+use Rattle.segment.specs.Refusal.{numberOf, refusal}
+use Rattle.segment.specs.declared.refusal.Refusal.{Refusal}
+use Rattle.segment.specs.declared.refusal.Check.{Check}
+use Rattle.segment.specs.declared.refusal.Check.the-variants.{Clear, Refused}
+use Rattle.segment.proofs.Bools.{or-false, chosen}
+use Rattle.endpoint.specs.Address.{size, block}
+use Rattle.endpoint.specs.Checks.{isUntimely}
+use Rattle.endpoint.specs.declared.address.Family.{Family}
+use Rattle.endpoint.proofs.Clear.{Passed, every-check}
+use Rattle.endpoint.proofs.Sums.{All}
+use Rattle.client.specs.Cache.{entryFor, learnedFrom, remembered}
+use Rattle.client.specs.Call.{Call, connect, answer, failed, numberOfEvent}
+use Rattle.client.specs.Refusals.{checks, judged, countIn}
+use Rattle.client.specs.Step.{startedBy, startChecks, startOf, cookieIn, brings, cacheAfter, isNegative, after, doneEvent, outcomeOf, step}
+use Rattle.client.specs.History.{Store, storesWith, distinct, noted, recalled, run, storesOf, Remembers}
+use Rattle.client.specs.declared.cache.Entry.{Entry}
+use Rattle.client.specs.declared.state.Memory.{Memory}
+use Rattle.client.proofs.Never.{positive}
+use Rattle.client.proofs.Recalling.{found-recalled, recalled-more, recent-once}
+use Rattle.client.proofs.Storing.{Kept, cookie-sized, Filled, blank-filled, filled-stored, entry-found, cookie-found, filled-more, kept-more}
+use Rattle.client.proofs.Banning.{Alone, blank-alone, later-alone, banned-alone}
+
+-- The clock
+
+-- a call that is done is not before the clock, and takes it to its own time
+not-before : (m : Memory) (t : ℕ) → isUntimely (m .clock) t ≡ false → m .clock ≤ t
+not-before m t e = ltb-false t (m .clock) (or-false (ltb t (m .clock)) _ e .0)
+
+done-clock : (m : Memory) (c : Call) → Passed (checks m c) → m .clock ≤ after m c .clock
+unfolding after
+done-clock m (connect t own server o offered room) p = not-before m t (p .1 .0)
+done-clock m (answer t own server a seg) p = not-before m t (p .1 .0)
+done-clock m (failed t server port) p = not-before m t (p .1 .0)
+
+step-clock : (m : Memory) (c : Call) → m .clock ≤ step m c .memory .clock
+unfolding step judged
+step-clock m c = go (judged m c) refl
+  where
+    go : (k : Check) → refusal (checks m c) ≡ k → m .clock ≤ outcomeOf m c k .memory .clock
+    go Clear e = done-clock m c (every-check (checks m c) e)
+    go (Refused r) e = omega arith
+
+run-clock : (m : Memory) (calls : List Call) → m .clock ≤ run m calls .clock
+unfolding run
+run-clock m [] = omega arith
+run-clock m (c ∷ cs) = omega (arith, step-clock m c, run-clock (step m c .memory) cs)
+
+more-clock : (m : Memory) (calls more : List Call) → run m calls .clock ≤ run m (calls ++ more) .clock
+unfolding run
+more-clock m [] more = run-clock m more
+more-clock m (c ∷ cs) more = more-clock (step m c .memory) cs more
+
+-- a call that is refused is no store
+noted-refused : (s : List Store) (c : Call) (r : Refusal) → noted s c (numberOf r) ≡ s
+noted-refused s (connect t own server o offered room) r = refl
+noted-refused s (answer t own server a seg) r = rw (ne-eqb (numberOf r) 0 (positive r))
+noted-refused s (failed t server port) r = refl
+
+-- What holds of a memory and the record of its calls
+
+abbrev Stored : Family → List Store → List Entry → Type 0
+Stored f s es = All (Kept f) (recalled s) × Filled (recalled s) es
+
+record Right (f : Family) (m : Memory) (s : List Store) : Type 0 where
+  family : m .family ≡ f
+  stored : Stored f s (m .cache)
+  alone : Alone (m .clock) (m .bans)
+
+module _ (f : Family) where
+  store : (s : List Store) (es : List Entry) (server seg : List ℕ) → length server ≡ size f → Stored f s es
+      → Stored f (storesWith s server (cookieIn seg) (optionsOf seg .mss)) (cacheAfter (block server) (cookieIn seg) (optionsOf seg .mss) es)
+  store s es server seg l h = go (brings (cookieIn seg) (optionsOf seg .mss))
+    where
+      x : Store
+      x = record { address = server; cookie = cookieIn seg; mss = optionsOf seg .mss }
+
+      go : (b : Bool) → Stored f (cond b (x ∷ s) s) (cond b (remembered (learnedFrom (entryFor (block server) es) (block server) (x .cookie) (x .mss)) es) es)
+      go true =
+          let kept : Kept f x = record { address = l; cookie = cookie-sized seg } in
+          rw (recalled-more x s) (kept-more f x kept (recalled s) es (h .0) (h .1), filled-more f x kept (recalled s) es (h .0) (h .1))
+      go false = h
+
+  right-done : (m : Memory) (c : Call) (s : List Store) → Passed (checks m c) → Right f m s → Right f (after m c) (noted s c (numberOfEvent (doneEvent m c)))
+  unfolding after
+  right-done m (connect t own server o offered room) s p r =
+      record { family = r .family; stored = r .stored; alone = later-alone (m .clock) t (m .bans) (not-before m t (p .1 .0)) (r .alone) }
+  right-done m (answer t own server a seg) s p r =
+      let h = not-before m t (p .1 .0) in
+      let size-right = eqb-true (length server) (size (m .family)) (not-false _ (p .1 .1 .1 .0)) ∙ ap size (r .family) in
+      record {
+        family = r .family;
+        stored = store s (m .cache) server seg size-right (r .stored);
+        alone = chosen (Alone t) (isNegative (a .sent) (countIn a (fieldsOf seg))) _ _
+            (λ _. banned-alone (m .clock) t (m .bans) h (r .alone) (block server) (a .dest)) (λ _. later-alone (m .clock) t (m .bans) h (r .alone));
+      }
+  right-done m (failed t server port) s p r =
+      record { family = r .family; stored = r .stored; alone = banned-alone (m .clock) t (m .bans) (not-before m t (p .1 .0)) (r .alone) (block server) port }
+
+  right-step : (m : Memory) (c : Call) (s : List Store) → Right f m s → Right f (step m c .memory) (noted s c (numberOfEvent (step m c .event)))
+  unfolding step judged
+  right-step m c s r = go (judged m c) refl
+    where
+      go : (k : Check) → refusal (checks m c) ≡ k → Right f (outcomeOf m c k .memory) (noted s c (numberOfEvent (outcomeOf m c k .event)))
+      go Clear e = right-done m c s (every-check (checks m c) e) r
+      go (Refused q) e = rw (noted-refused s c q) r
+
+  right-run : (m : Memory) (s : List Store) (calls : List Call) → Right f m s → Right f (run m calls) (storesOf m s calls)
+  unfolding run storesOf
+  right-run m s [] r = r
+  right-run m s (c ∷ cs) r = right-run (step m c .memory) (noted s c (numberOfEvent (step m c .event))) cs (right-step m c s r)
+
+right-start : (n : ℕ) → Right (startOf n .memory .family) (startOf n .memory) []
+unfolding startOf distinct
+right-start n = go (refusal (startChecks n))
+  where
+    go : (k : Check) → Right (startedBy n k .memory .family) (startedBy n k .memory) []
+    go Clear = record { family = refl; stored = (tt, blank-filled 32); alone = blank-alone }
+    go (Refused r) = record { family = refl; stored = (tt, blank-filled 32); alone = blank-alone }
+
+right-calls : (n : ℕ) (calls : List Call) → Right (startOf n .memory .family) (run (startOf n .memory) calls) (storesOf (startOf n .memory) [] calls)
+right-calls n calls = right-run (startOf n .memory .family) (startOf n .memory) [] calls (right-start n)
+
+-- The theorem
+
+pub remembers : (n : ℕ) → startOf n .check ≡ Clear → (calls : List Call) → Remembers (startOf n .memory) calls
+remembers n done calls =
+    let m = startOf n .memory in
+    let s = storesOf m [] calls in
+    let r = right-calls n calls in
+    let kept = r .stored .0 in
+    let filled = r .stored .1 in
+    let same = filled-stored (m .family) (recalled s) (run m calls .cache) kept filled in
+    record {
+      stored = same;
+      found = λ server e.
+          let l = eqb-true (length server) (size (m .family)) e in
+          let last = found-recalled server s in
+          let cookie = cookie-found (m .family) server l (recalled s) (run m calls .cache) kept filled in
+          let entry = entry-found (m .family) server l (recalled s) (run m calls .cache) kept filled in
+          (cookie ∙ ap (λ (x : Store). x .cookie) last, entry .2 ∙ ap (λ (x : Store). x .mss) last);
+      once = rw same (recent-once s);
+      alone = r .alone .single;
+      clock = more-clock m calls;
+    }

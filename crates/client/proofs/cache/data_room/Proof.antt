@@ -1,0 +1,27 @@
+-- `client::cache::data_room` meets its contract: the smaller of the two.
+-- Assumes nothing.
+use mathlib.Core.Path.{sym}
+use native.Mathlib.Nat.{min-eq-left, min-eq-right}
+use native.Mathlib.Omega.{arith}
+use borrow.Author.Needs.{needs}
+use Rattle.client.proofs.cache.data_room.Statement.{statement}
+use Rattle.client.proofs.cache.data_room.Tie as tie
+
+default-mss-requires : tie.Need-default-mss-requires
+default-mss-requires c κs = search needs
+
+mss-or-requires : tie.Need-mss-or-requires
+mss-or-requires c κs = search needs
+
+most-data-requires : tie.Need-most-data-requires
+most-data-requires c κs = search needs
+
+returns : tie.Need-returns
+returns c = rw (sym (c .before .before .before .default-mss .ensures), sym (c .before .before .mss-or .ensures), sym (c .before .most-data .ensures)) (sym (min-eq-left (omega arith)))
+
+returns-2 : tie.Need-returns-2
+returns-2 c = rw (sym (c .before .before .before .default-mss .ensures), sym (c .before .before .mss-or .ensures), sym (c .before .most-data .ensures)) (sym (min-eq-right (omega arith)))
+
+pub data-room-spec : {M : Type 1} → statement M
+data-room-spec =
+    tie.close (tie.spec default-mss-requires mss-or-requires most-data-requires returns returns-2)

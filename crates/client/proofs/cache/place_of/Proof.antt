@@ -1,0 +1,75 @@
+-- `client::cache::place_of` meets its contract: the search goes on while the entries are not for the address.
+-- Assumes nothing.
+use Prim.Native.Nat.{_-_, _≤_, _<_}
+use mathlib.Core.Path.{_≡_, sym, _∙_}
+use native.Mathlib.Omega.{arith}
+use lib.ListN.{length, length-map}
+use Rattle.client.specs.Cache.{isFor}
+use Rattle.client.proofs.Finding.{Searched, searched-start, searched-on, searched-found, searched-end}
+use borrow.Author.Needs.{needs}
+use Rattle.client.proofs.cache.place_of.Statement.{statement}
+use Rattle.client.proofs.cache.place_of.Tie as tie
+
+abbrev Inv-loop : tie.InvT-loop
+Inv-loop b m i₀ i = (i ≤ 32) × Searched (isFor b) (m .cache) i
+
+abbrev μ-loop : tie.MeasureT-loop
+μ-loop b m i₀ i = 32 - i
+
+loop-holds : tie.Need-loop-holds Inv-loop μ-loop
+loop-holds c = (omega arith, searched-start (isFor (c .args .b)) (c .args .t1 .cache))
+
+mul-e : tie.Need-mul-e Inv-loop μ-loop
+mul-e c = search needs
+
+element-copy-out-e : tie.Need-element-copy-out-e Inv-loop μ-loop
+element-copy-out-e c = search needs
+
+is-for-requires : tie.Need-is-for-requires Inv-loop μ-loop
+is-for-requires c κs = search needs
+
+returns : tie.Need-returns Inv-loop μ-loop
+returns c =
+    let m = c .before .before .before .before .before .args .t1 in
+    let n : length (m .cache) ≡ 32 = simp length-map at (c .before .before .before .before .before .good .0 .1 .1 .0 .1 .0 .1) in
+    let i = c .before .before .before .before .loop .i in
+    let h : i < length (m .cache) = omega arith in
+    searched-found (isFor (c .before .before .before .before .before .args .b)) (m .cache) i (c .before .before .before .before .loop .inv .1) _ h (sym (c .before .is-for .ensures) ∙ c .if1 .taken)
+
+add-i : tie.Need-add-i Inv-loop μ-loop
+add-i c = search needs
+
+loop-less : tie.Need-loop-less Inv-loop μ-loop
+loop-less c = search needs
+
+loop-again : tie.Need-loop-again Inv-loop μ-loop
+loop-again c =
+    let m = c .before .before .before .before .before .args .t1 in
+    let n : length (m .cache) ≡ 32 = simp length-map at (c .before .before .before .before .before .good .0 .1 .1 .0 .1 .0 .1) in
+    let i = c .before .before .before .before .loop .i in
+    let h : i < length (m .cache) = omega arith in
+    (omega arith, searched-on (isFor (c .before .before .before .before .before .args .b)) (m .cache) i (c .before .before .before .before .loop .inv .1) _ h (sym (c .before .is-for .ensures) ∙ c .if1 .left))
+
+returns-2 : tie.Need-returns-2 Inv-loop μ-loop
+returns-2 c =
+    let m = c .before .before .args .t1 in
+    let n : length (m .cache) ≡ 32 = simp length-map at (c .before .before .good .0 .1 .1 .0 .1 .0 .1) in
+    let i = c .before .loop .i in
+    let e = searched-end (isFor (c .before .before .args .b)) (m .cache) i (c .before .loop .inv .1) (omega arith) in
+    omega arith
+
+pub place-of-spec : {M : Type 1} → statement M
+place-of-spec =
+    tie.close
+    (tie.spec
+    Inv-loop
+    μ-loop
+    loop-holds
+    mul-e
+    element-copy-out-e
+    is-for-requires
+    returns
+    add-i
+    loop-less
+    loop-again
+    returns-2)

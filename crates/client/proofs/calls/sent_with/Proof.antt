@@ -1,0 +1,42 @@
+-- `client::calls::sent_with` meets its contract: banned, without a cookie, or the smaller of two.
+-- Assumes nothing.
+use mathlib.Core.Path.{sym}
+use native.Mathlib.Nat.{min-eq-left, min-eq-right}
+use native.Mathlib.Omega.{arith}
+use borrow.Author.Tests.{eq-eqb, ne-eqb}
+use borrow.Author.Needs.{needs}
+use Rattle.client.proofs.calls.sent_with.Statement.{statement}
+use Rattle.client.proofs.calls.sent_with.Tie as tie
+
+returns : tie.Need-returns
+returns c = rw (c .if1 .taken)
+
+cookie-length-requires : tie.Need-cookie-length-requires
+cookie-length-requires c κs = search needs
+
+returns-2 : tie.Need-returns-2
+returns-2 c = simp (c .before .before .if1 .left, sym (c .before .cookie-length .ensures), eq-eqb _ _ (c .if2 .taken))
+
+data-room-requires : tie.Need-data-room-requires
+data-room-requires c κs = search needs
+
+cast-room : tie.Need-cast-room
+cast-room c = search needs
+
+returns-3 : tie.Need-returns-3
+returns-3 c = simp (c .before .before .before .before .if1 .left, sym (c .before .before .before .cookie-length .ensures), ne-eqb _ _ (c .before .before .if2 .left), sym (c .before .data-room .ensures)) (sym (min-eq-left (omega arith)))
+
+returns-4 : tie.Need-returns-4
+returns-4 c = simp (c .before .before .before .before .if1 .left, sym (c .before .before .before .cookie-length .ensures), ne-eqb _ _ (c .before .before .if2 .left), sym (c .before .data-room .ensures)) (sym (min-eq-right (omega arith)))
+
+pub sent-with-spec : {M : Type 1} → statement M
+sent-with-spec =
+    tie.close
+    (tie.spec
+    returns
+    cookie-length-requires
+    returns-2
+    data-room-requires
+    cast-room
+    returns-3
+    returns-4)

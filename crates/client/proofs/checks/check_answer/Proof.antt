@@ -1,0 +1,41 @@
+-- `client::checks::check_answer` meets its contract: the checks before, then the segment.
+-- Assumes nothing.
+use mathlib.Core.Path.{sym, _∙_}
+use Rattle.endpoint.specs.Checks.{isUntimely}
+use Rattle.client.proofs.Judging.{answer-stopped, answer-passed}
+use borrow.Author.Needs.{needs}
+use Rattle.client.proofs.checks.check_answer.Statement.{statement}
+use Rattle.client.proofs.checks.check_answer.Tie as tie
+
+check-pair-requires : tie.Need-check-pair-requires
+check-pair-requires c κs = search needs
+
+enum-known-why : tie.Need-enum-known-why
+enum-known-why c = search needs
+
+enum-told : tie.Need-enum-told
+enum-told c = search needs
+
+check-segment-requires : tie.Need-check-segment-requires
+check-segment-requires c κs = search needs
+
+returns : tie.Need-returns
+returns c =
+    let a = c .before .before .before .before .before .before .before .args in
+    answer-stopped (a .started) (isUntimely (a .clock) (a .time)) (a .family) (a .own .now) (a .server .now) (a .a) (a .seg .now) (sym (c .before .before .before .check-pair .ensures) ∙ c .before .why .given .1)
+
+returns-2 : tie.Need-returns-2
+returns-2 c =
+    let a = c .before .before .before .before .before .before .before .args in
+    c .check-segment .ensures ∙ answer-passed (a .started) (isUntimely (a .clock) (a .time)) (a .family) (a .own .now) (a .server .now) (a .a) (a .seg .now) (sym (c .before .before .before .check-pair .ensures) ∙ c .before .enum-told .given .1)
+
+pub check-answer-spec : {M : Type 1} → statement M
+check-answer-spec =
+    tie.close
+    (tie.spec
+    check-pair-requires
+    enum-known-why
+    enum-told
+    check-segment-requires
+    returns
+    returns-2)

@@ -1,0 +1,54 @@
+-- `client::checks::check_open` meets its contract: the checks before, then the output and the MSS.
+-- Assumes nothing.
+use mathlib.Core.Path.{sym, _∙_}
+use borrow.Author.Tests.{not-true, not-false}
+use Rattle.endpoint.specs.Checks.{isUntimely}
+use Rattle.client.proofs.Judging.{open-stopped, open-short, open-bad, open-clear}
+use borrow.Author.Needs.{needs}
+use Rattle.client.proofs.checks.check_open.Statement.{statement}
+use Rattle.client.proofs.checks.check_open.Tie as tie
+
+check-pair-requires : tie.Need-check-pair-requires
+check-pair-requires c κs = search needs
+
+enum-known-why : tie.Need-enum-known-why
+enum-known-why c = search needs
+
+enum-told : tie.Need-enum-told
+enum-told c = search needs
+
+returns : tie.Need-returns
+returns c =
+    let a = c .before .before .before .before .before .before .args in
+    sym (open-short (a .started) (isUntimely (a .clock) (a .time)) (a .family) (a .own .now) (a .server .now) (a .mss) (a .room) (sym (c .before .before .before .check-pair .ensures) ∙ c .before .enum-told .given .1) (c .if1 .taken))
+
+is-mss-requires : tie.Need-is-mss-requires
+is-mss-requires c κs = search needs
+
+returns-2 : tie.Need-returns-2
+returns-2 c =
+    let a = c .before .before .before .before .before .before .before .before .args in
+    sym (open-bad (a .started) (isUntimely (a .clock) (a .time)) (a .family) (a .own .now) (a .server .now) (a .mss) (a .room) (sym (c .before .before .before .before .before .check-pair .ensures) ∙ c .before .before .before .enum-told .given .1) (c .before .before .if1 .left) (c .before .is-mss .ensures) (not-true _ (c .if2 .taken)))
+
+returns-3 : tie.Need-returns-3
+returns-3 c =
+    let a = c .before .before .before .before .before .before .args in
+    sym (open-stopped (a .started) (isUntimely (a .clock) (a .time)) (a .family) (a .own .now) (a .server .now) (a .mss) (a .room) (sym (c .before .before .before .check-pair .ensures) ∙ c .before .why .given .1))
+
+returns-4 : tie.Need-returns-4
+returns-4 c =
+    let a = c .before .before .before .before .before .before .before .before .args in
+    sym (open-clear (a .started) (isUntimely (a .clock) (a .time)) (a .family) (a .own .now) (a .server .now) (a .mss) (a .room) (sym (c .before .before .before .before .before .check-pair .ensures) ∙ c .before .before .before .enum-told .given .1) (c .before .before .if1 .left) (c .before .is-mss .ensures) (not-false _ (c .if2 .left)))
+
+pub check-open-spec : {M : Type 1} → statement M
+check-open-spec =
+    tie.close
+    (tie.spec
+    check-pair-requires
+    enum-known-why
+    enum-told
+    returns
+    is-mss-requires
+    returns-2
+    returns-3
+    returns-4)

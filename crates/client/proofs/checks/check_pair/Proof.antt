@@ -1,0 +1,47 @@
+-- `client::checks::check_pair` meets its contract: the checks before, then the server's address.
+-- Assumes nothing.
+use mathlib.Core.Path.{sym, _∙_}
+use Rattle.endpoint.specs.Checks.{isUntimely}
+use Rattle.client.proofs.Judging.{pair-stopped, pair-right, pair-wrong}
+use borrow.Author.Needs.{needs}
+use Rattle.client.proofs.checks.check_pair.Statement.{statement}
+use Rattle.client.proofs.checks.check_pair.Tie as tie
+
+check-name-requires : tie.Need-check-name-requires
+check-name-requires c κs = search needs
+
+enum-known-why : tie.Need-enum-known-why
+enum-known-why c = search needs
+
+enum-told : tie.Need-enum-told
+enum-told c = search needs
+
+is-address-requires : tie.Need-is-address-requires
+is-address-requires c κs = search needs
+
+returns : tie.Need-returns
+returns c =
+    let a = c .before .before .before .before .before .before .args in
+    sym (pair-stopped (a .started) (isUntimely (a .clock) (a .time)) (a .family) (a .own .now) (a .server .now) (sym (c .before .before .before .check-name .ensures) ∙ c .before .why .given .1))
+
+returns-2 : tie.Need-returns-2
+returns-2 c =
+    let a = c .before .before .before .before .before .before .before .args in
+    sym (pair-right (a .started) (isUntimely (a .clock) (a .time)) (a .family) (a .own .now) (a .server .now) (sym (c .before .before .before .before .check-name .ensures) ∙ c .before .before .enum-told .given .1) (c .before .is-address .ensures) (c .if1 .taken))
+
+returns-3 : tie.Need-returns-3
+returns-3 c =
+    let a = c .before .before .before .before .before .before .before .args in
+    sym (pair-wrong (a .started) (isUntimely (a .clock) (a .time)) (a .family) (a .own .now) (a .server .now) (sym (c .before .before .before .before .check-name .ensures) ∙ c .before .before .enum-told .given .1) (c .before .is-address .ensures) (c .if1 .left))
+
+pub check-pair-spec : {M : Type 1} → statement M
+check-pair-spec =
+    tie.close
+    (tie.spec
+    check-name-requires
+    enum-known-why
+    enum-told
+    is-address-requires
+    returns
+    returns-2
+    returns-3)

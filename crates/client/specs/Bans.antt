@@ -1,0 +1,56 @@
+-- Document 01, "Client": the bans, which of them are live, and where a new one goes.
+-- Assumes nothing.
+use Prim.Native.Nat.{ℕ, _+_}
+use mathlib.Core.List.{List, [], _∷_}
+use mathlib.Core.Bool.{Bool, true, cond, not, _&&_}
+use lib.Dec.{ltb, leb, eqb}
+use lib.ListN.{replicate, set}
+use Rattle.endpoint.specs.Lists.{sameBytes, firstIndex}
+use Rattle.client.specs.declared.bans.Ban.{Ban}
+use Rattle.client.specs.declared.state.Memory.{Memory}
+
+-- a place with no ban: an end at 0 is never after a time
+abbrev pub noBan : Ban
+noBan = record { addr = replicate 16 0; port = 0; end = 0 }
+
+-- a ban is live while its end is after the call's time
+abbrev pub isLive : ℕ → Ban → Bool
+isLive t x = ltb t (x .end)
+
+-- a live ban of the server with this block and port
+unfoldable pub isBan : ℕ → List ℕ → ℕ → Ban → Bool
+isBan t b port x = isLive t x && (eqb (x .port) port && sameBytes (x .addr) b)
+
+abbrev pub banPlace : ℕ → List ℕ → ℕ → List Ban → ℕ
+banPlace t b port bans = firstIndex (isBan t b port) bans
+
+abbrev pub isBanned : ℕ → List ℕ → ℕ → List Ban → Bool
+isBanned t b port bans = ltb (banPlace t b port bans) 32
+
+-- the lowest place that is not live; 32 where all are
+abbrev pub freePlace : ℕ → List Ban → ℕ
+freePlace t bans = firstIndex (λ x. not (isLive t x)) bans
+
+abbrev pub every : {A : Type 0} → (A → Bool) → List A → Bool
+every p [] = true
+every p (x ∷ xs) = p x && every p xs
+
+-- the lowest place of those that end first
+unfoldable pub endsFirst : List Ban → ℕ
+endsFirst bans = firstIndex (λ x. every (λ y. leb (x .end) (y .end)) bans) bans
+
+-- A ban of a live name takes that place. Another takes the lowest place that is not live; when all 32 are live, the one that ends first makes way.
+abbrev pub placeFor : ℕ → List ℕ → ℕ → List Ban → ℕ
+placeFor t b port bans =
+    cond (isBanned t b port bans) (banPlace t b port bans)
+    (cond (ltb (freePlace t bans) 32) (freePlace t bans) (endsFirst bans))
+
+-- it ends 600,000 ms after it was set
+abbrev pub newBan : ℕ → List ℕ → ℕ → Ban
+newBan t b port = record { addr = b; port = port; end = t + 600000 }
+
+unfoldable pub banned : ℕ → List ℕ → ℕ → List Ban → List Ban
+banned t b port bans = set bans (placeFor t b port bans) (newBan t b port)
+
+abbrev pub withBans : Memory → List Ban → Memory
+withBans m bans = record { cache = m .cache; bans = bans; started = m .started; family = m .family; clock = m .clock }

@@ -1,0 +1,82 @@
+-- Document 01, "Client": what is stored for a server address, how much data goes with its cookie, and the order of the stored addresses.
+-- Assumes nothing.
+use Prim.Native.Nat.{ℕ, min}
+use mathlib.Core.List.{List, [], _∷_}
+use mathlib.Core.Bool.{Bool, true, false, cond, _&&_}
+use lib.Dec.{eqb}
+use lib.ListN.{length, take, getD, replicate}
+use Rattle.segment.specs.Options.{isCookieLength, firstMss}
+use Rattle.segment.specs.declared.options.Mss.{Mss}
+use Rattle.segment.specs.declared.options.Mss.the-variants.{NotGiven, Given}
+use Rattle.endpoint.specs.Lists.{sameBytes, firstIndex}
+use Rattle.endpoint.specs.Address.{block}
+use Rattle.endpoint.specs.declared.address.Family.{Family}
+use Rattle.endpoint.specs.declared.address.Family.the-variants.{V4, V6}
+use Rattle.client.specs.declared.cache.Entry.{Entry}
+use Rattle.client.specs.declared.state.Memory.{Memory}
+
+-- a place where nothing is stored
+abbrev pub unusedEntry : Entry
+unusedEntry = record { used = false; addr = replicate 16 0; cookie = replicate 16 0; len = 0; mss = NotGiven }
+
+-- something is stored for the server address with this block
+unfoldable pub isFor : List ℕ → Entry → Bool
+isFor b e = e .used && sameBytes (e .addr) b
+
+-- where, and what
+abbrev pub placeOf : List ℕ → List Entry → ℕ
+placeOf b es = firstIndex (isFor b) es
+
+abbrev pub entryFor : List ℕ → List Entry → Entry
+entryFor b es = getD es (placeOf b es) unusedEntry
+
+-- the stored cookie; none where the stored length is no cookie's
+abbrev pub cookieLength : Entry → ℕ
+cookieLength e = cond (isCookieLength (e .len)) (e .len) 0
+
+abbrev pub cookieOf : Entry → List ℕ
+cookieOf e = take (cookieLength e) (e .cookie)
+
+-- How much data goes with a cookie
+
+-- where no MSS is stored
+abbrev pub defaultMss : Family → ℕ
+defaultMss V4 = 536
+defaultMss V6 = 1220
+
+-- whatever MSS is stored
+abbrev pub mostData : Family → ℕ
+mostData V4 = 1460
+mostData V6 = 1440
+
+abbrev pub mssOr : ℕ → Mss → ℕ
+mssOr default NotGiven = default
+mssOr default (Given v) = v
+
+abbrev pub dataRoom : Family → Mss → ℕ
+dataRoom f mss = min (mssOr (defaultMss f) mss) (mostData f)
+
+-- What is stored next
+
+-- a cookie that is not empty and an MSS that is given replace what was stored for the address
+abbrev pub learnedFrom : Entry → List ℕ → List ℕ → Mss → Entry
+learnedFrom old b cookie mss =
+    record {
+      used = true;
+      addr = b;
+      cookie = cond (eqb (length cookie) 0) (old .cookie) (block cookie);
+      len = cond (eqb (length cookie) 0) (old .len) (length cookie);
+      mss = firstMss mss (old .mss);
+    }
+
+-- the list without the first element that passes a test
+abbrev pub dropFirst : {A : Type 0} → (A → Bool) → List A → List A
+dropFirst p [] = []
+dropFirst p (x ∷ xs) = cond (p x) xs (x ∷ dropFirst p xs)
+
+-- The most recent is first. An entry that is stored leaves its address's old place and becomes the most recent; of 33 the least recent is dropped.
+abbrev pub remembered : Entry → List Entry → List Entry
+remembered e es = take 32 (e ∷ dropFirst (isFor (e .addr)) es)
+
+abbrev pub withCache : Memory → List Entry → Memory
+withCache m es = record { cache = es; bans = m .bans; started = m .started; family = m .family; clock = m .clock }

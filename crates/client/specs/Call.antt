@@ -1,0 +1,36 @@
+-- Document 01, "Client": the calls that carry a time, and what an answer says.
+-- Assumes nothing.
+use Prim.Native.Nat.{ℕ}
+use mathlib.Core.List.{List}
+use Rattle.segment.specs.Refusal.{numberOf}
+use Rattle.client.specs.declared.answer.ActiveOpen.{ActiveOpen}
+use Rattle.client.specs.declared.answer.Attempt.{Attempt}
+use Rattle.client.specs.declared.answer.Event.{Event}
+use Rattle.client.specs.declared.answer.Event.the-variants.{Refused, Opened, Answered, Noted}
+
+-- A call with its arguments, the time first. 01's open has own address, the server's address, ports and numbers, the data offered and the output's length; an answer has
+-- both addresses, the attempt and the segment; a failure has the server's address and port.
+pub data Call : Type 0 where
+  connect : ℕ → List ℕ → List ℕ → ActiveOpen → List ℕ → ℕ → Call
+  answer : ℕ → List ℕ → List ℕ → Attempt → List ℕ → Call
+  failed : ℕ → List ℕ → ℕ → Call
+
+-- the time that a call carries
+abbrev pub timeOf : Call → ℕ
+timeOf (connect t own server o offered room) = t
+timeOf (answer t own server a seg) = t
+timeOf (failed t server port) = t
+
+-- the number of an answer; 0 is done
+abbrev pub numberOfEvent : Event → ℕ
+numberOfEvent (Refused r) = numberOf r
+numberOfEvent (Opened n) = 0
+numberOfEvent (Answered n) = 0
+numberOfEvent Noted = 0
+
+-- the bytes of data sent, or acknowledged
+abbrev pub countOf : Event → ℕ
+countOf (Refused r) = 0
+countOf (Opened n) = n
+countOf (Answered n) = n
+countOf Noted = 0

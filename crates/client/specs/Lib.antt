@@ -1,0 +1,8 @@
+-- The client's memory, as document 01 defines it. In reading order: the cookie cache; the bans; the calls and what an answer says; the refusals; the call itself;
+-- and what holds over every list of calls, by a record of them.
+pub mod Cache
+pub mod Bans
+pub mod Call
+pub mod Refusals
+pub mod Step
+pub mod History

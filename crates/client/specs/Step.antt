@@ -1,0 +1,139 @@
+-- Document 01, "Client": the start, and one call on a memory with its answer, the memory next and what is written.
+-- Assumes nothing.
+use Prim.Native.Nat.{ℕ, min}
+use mathlib.Core.List.{List, [], _∷_}
+use mathlib.Core.Bool.{Bool, true, false, cond, not, _&&_, _||_}
+use lib.Dec.{eqb}
+use lib.ListN.{length, take, replicate}
+use Rattle.segment.specs.Refusal.{Checks, refusal}
+use Rattle.segment.specs.Header.{fieldsOf, optionArea}
+use Rattle.segment.specs.Options.{optionsOf, cookieBytes}
+use Rattle.segment.specs.Write.{openingBytes}
+use Rattle.segment.specs.declared.refusal.Refusal.the-variants.{Address}
+use Rattle.segment.specs.declared.refusal.Check.{Check}
+use Rattle.segment.specs.declared.refusal.Check.the-variants.{Clear, Refused}
+use Rattle.segment.specs.declared.options.Mss.{Mss}
+use Rattle.segment.specs.declared.options.Mss.the-variants.{NotGiven, Given}
+use Rattle.segment.specs.declared.write.Opening.{Opening}
+use Rattle.endpoint.specs.Address.{isSize, familyOf, block}
+use Rattle.endpoint.specs.declared.address.Family.{Family}
+use Rattle.endpoint.specs.declared.address.Family.the-variants.{V4}
+use Rattle.client.specs.Cache.{unusedEntry, entryFor, cookieLength, cookieOf, dataRoom, learnedFrom, remembered}
+use Rattle.client.specs.Bans.{noBan, isBanned, banned}
+use Rattle.client.specs.Call.{Call, connect, answer, failed}
+use Rattle.client.specs.Refusals.{countIn, judged}
+use Rattle.client.specs.declared.answer.ActiveOpen.{ActiveOpen}
+use Rattle.client.specs.declared.answer.Event.{Event}
+use Rattle.client.specs.declared.answer.Event.the-variants as events
+use Rattle.client.specs.declared.answer.Outcome.{Outcome}
+use Rattle.client.specs.declared.answer.Started.{Started}
+use Rattle.client.specs.declared.bans.Ban.{Ban}
+use Rattle.client.specs.declared.cache.Entry.{Entry}
+use Rattle.client.specs.declared.state.Memory.{Memory}
+
+-- The start
+
+-- nothing stored, no ban, time 0
+abbrev pub blank : Bool → Family → Memory
+blank started f = record { cache = replicate 32 unusedEntry; bans = replicate 32 noBan; started = started; family = f; clock = 0 }
+
+-- a memory that was never started: every call on it answers 13
+abbrev pub neverStarted : Memory
+neverStarted = blank false V4
+
+abbrev pub startChecks : ℕ → Checks
+startChecks n = (Address, not (isSize n)) ∷ []
+
+abbrev pub startedBy : ℕ → Check → Started
+startedBy n Clear = record { memory = blank true (familyOf n); check = Clear }
+startedBy n (Refused r) = record { memory = neverStarted; check = Refused r }
+
+-- a memory is started for the family whose addresses have n bytes
+unfoldable pub startOf : ℕ → Started
+startOf n = startedBy n (refusal (startChecks n))
+
+-- An opening
+
+-- how many of the bytes offered are sent: none where the server is banned or no cookie is stored
+abbrev pub sentWith : Family → Bool → Entry → ℕ → ℕ
+sentWith f banned e offered = cond (banned || eqb (cookieLength e) 0) 0 (min offered (dataRoom f (e .mss)))
+
+-- a banned server gets no Fast Open option; without a cookie the option is a request
+abbrev pub openingFor : Bool → ActiveOpen → Opening
+openingFor banned o = record { source = o .source; dest = o .dest; iss = o .iss; mss = o .mss; fast = not banned }
+
+abbrev pub openingWith : Family → Bool → Entry → List ℕ → List ℕ → ActiveOpen → List ℕ → ℕ → List ℕ
+openingWith f banned e own server o offered room =
+    openingBytes own server (openingFor banned o) (cookieOf e) (take (sentWith f banned e (length offered)) offered) room
+
+-- An answer
+
+-- the cookie that counts
+abbrev pub cookieIn : List ℕ → List ℕ
+cookieIn seg = cookieBytes (optionsOf seg .fast) (optionArea seg)
+
+abbrev pub isGiven : Mss → Bool
+isGiven NotGiven = false
+isGiven (Given v) = true
+
+-- a cookie that is not empty, or an MSS
+abbrev pub brings : List ℕ → Mss → Bool
+brings cookie mss = not (eqb (length cookie) 0) || isGiven mss
+
+-- an answer that brings either makes its address the most recent
+abbrev pub cacheAfter : List ℕ → List ℕ → Mss → List Entry → List Entry
+cacheAfter b cookie mss es = cond (brings cookie mss) (remembered (learnedFrom (entryFor b es) b cookie mss) es) es
+
+-- a ban is set if data was sent and none acknowledged
+abbrev pub isNegative : ℕ → ℕ → Bool
+isNegative sent count = not (eqb sent 0) && eqb count 0
+
+abbrev pub bansAfter : ℕ → List ℕ → ℕ → Bool → List Ban → List Ban
+bansAfter t b port negative bans = cond negative (banned t b port bans) bans
+
+-- A done call
+
+-- the memory at a time, with this cache and these bans
+abbrev pub moved : Memory → ℕ → List Entry → List Ban → Memory
+moved m t es bans = record { cache = es; bans = bans; started = m .started; family = m .family; clock = t }
+
+unfoldable pub after : Memory → Call → Memory
+after m (connect t own server o offered room) = moved m t (m .cache) (m .bans)
+after m (answer t own server a seg) =
+    moved m t (cacheAfter (block server) (cookieIn seg) (optionsOf seg .mss) (m .cache))
+    (bansAfter t (block server) (a .dest) (isNegative (a .sent) (countIn a (fieldsOf seg))) (m .bans))
+after m (failed t server port) = moved m t (m .cache) (banned t (block server) port (m .bans))
+
+-- whether the server of an opening is banned at its time, and what is stored for it
+abbrev pub bannedFor : Memory → ℕ → List ℕ → ActiveOpen → Bool
+bannedFor m t server o = isBanned t (block server) (o .dest) (m .bans)
+
+abbrev pub storedFor : Memory → List ℕ → Entry
+storedFor m server = entryFor (block server) (m .cache)
+
+abbrev pub doneEvent : Memory → Call → Event
+doneEvent m (connect t own server o offered room) = events.Opened (sentWith (m .family) (bannedFor m t server o) (storedFor m server) (length offered))
+doneEvent m (answer t own server a seg) = events.Answered (countIn a (fieldsOf seg))
+doneEvent m (failed t server port) = events.Noted
+
+abbrev pub doneOutput : Memory → Call → List ℕ
+doneOutput m (connect t own server o offered room) = openingWith (m .family) (bannedFor m t server o) (storedFor m server) own server o offered room
+doneOutput m (answer t own server a seg) = []
+doneOutput m (failed t server port) = []
+
+-- A call: refused, it changes nothing
+
+abbrev pub outcomeOf : Memory → Call → Check → Outcome
+outcomeOf m c Clear = record { memory = after m c; event = doneEvent m c; written = length (doneOutput m c) }
+outcomeOf m c (Refused r) = record { memory = m; event = events.Refused r; written = 0 }
+
+unfoldable pub step : Memory → Call → Outcome
+step m c = outcomeOf m c (judged m c)
+
+abbrev pub outputIf : Memory → Call → Check → List ℕ
+outputIf m c Clear = doneOutput m c
+outputIf m c (Refused r) = []
+
+-- what a call writes at the output's start
+unfoldable pub outputOf : Memory → Call → List ℕ
+outputOf m c = outputIf m c (judged m c)

@@ -1,0 +1,68 @@
+// What a call is given and what it answers.
+use crate::state::Memory;
+use segment::refusal::Check;
+use segment::refusal::Refusal;
+use segment::refusal::number;
+ghost use mathlib.Core.Path.{_≡_};
+ghost use Rattle.client.specs.Call.{numberOfEvent, countOf};
+
+// An opening to be made: own port, the server's port, our initial number, and own MSS.
+pub struct ActiveOpen {
+    pub source: u16,
+    pub dest: u16,
+    pub iss: u32,
+    pub mss: u32,
+}
+
+// Document 01's attempt, the opening that a segment answers: own port, the server's port, our initial number, and how many bytes of data were sent with it.
+pub struct Attempt {
+    pub source: u16,
+    pub dest: u16,
+    pub iss: u32,
+    pub sent: u32,
+}
+
+// What a call came to: an opening was written with so many bytes of data; an answer acknowledges so many of them; a failure was noted.
+pub enum Event {
+    Refused(Refusal),
+    Opened(u32),
+    Answered(u32),
+    Noted,
+}
+
+// A call's answer: the memory next, what happened, and how many bytes were written to the output.
+pub struct Outcome {
+    pub memory: Memory,
+    pub event: Event,
+    pub written: usize,
+}
+
+// A start's answer. Where it was refused, every call on the memory is.
+pub struct Started {
+    pub memory: Memory,
+    pub check: Check,
+}
+
+// The number of an answer: 0 where the call was done.
+pub fn event_number(e: Event) -> u8
+    ensures { λ r. ⌜ r ≡ numberOfEvent e ⌝ }
+{
+    match e {
+        Event::Refused(why) => number(why),
+        Event::Opened(_) => 0,
+        Event::Answered(_) => 0,
+        Event::Noted => 0,
+    }
+}
+
+// How many bytes of data were sent, or acknowledged.
+pub fn event_count(e: Event) -> u32
+    ensures { λ r. ⌜ r ≡ countOf e ⌝ }
+{
+    match e {
+        Event::Refused(_) => 0,
+        Event::Opened(n) => n,
+        Event::Answered(n) => n,
+        Event::Noted => 0,
+    }
+}

@@ -1,0 +1,241 @@
+// The start and the calls. Each call carries a time in ms and answers the memory next; a refused one answers the memory as it was and leaves the output alone.
+use crate::answer::ActiveOpen;
+use crate::answer::Attempt;
+use crate::answer::Event;
+use crate::answer::Outcome;
+use crate::answer::Started;
+use crate::bans::is_banned;
+use crate::bans::no_ban;
+use crate::bans::set_ban;
+use crate::cache::Entry;
+use crate::cache::cookie_length;
+use crate::cache::data_room;
+use crate::cache::entry_for;
+use crate::cache::learned;
+use crate::cache::remember;
+use crate::cache::unused_entry;
+use crate::checks::Reply;
+use crate::checks::check_answer;
+use crate::checks::check_open;
+use crate::state::Memory;
+use endpoint::address::Family;
+use endpoint::address::block_of;
+use endpoint::address::family_of;
+use endpoint::address::is_size;
+use endpoint::checks::check_name;
+use segment::header::option_area;
+use segment::options::Mss;
+use segment::options::cookie;
+use segment::options::segment_options;
+use segment::refusal::Check;
+use segment::refusal::Refusal;
+use segment::write::Opening;
+use segment::write::write_opening;
+ghost use mathlib.Core.Path.{_≡_};
+ghost use Prim.Native.Nat.{_≤_, _^_};
+ghost use lib.ListN.{length};
+ghost use Rattle.segment.specs.Write.{overwrite};
+ghost use Rattle.client.specs.Cache.{withCache};
+ghost use Rattle.client.specs.Bans.{withBans};
+ghost use Rattle.client.specs.Call.{Call};
+ghost use Rattle.client.specs.Step.{blank, neverStarted, startOf, sentWith, isGiven, cacheAfter, isNegative, bansAfter, step, outputOf, moved};
+
+// A refused call changes nothing.
+fn refused(m: Memory, why: Refusal) -> Outcome
+    ensures { λ r. ⌜ r ≡ record { memory = m; event = Event.Refused why; written = 0 } ⌝ }
+{
+    Outcome {
+        memory: m,
+        event: Event::Refused(why),
+        written: 0,
+    }
+}
+
+// A memory with nothing stored and no ban, at time 0.
+fn blank_memory(started: bool, family: Family) -> Memory
+    ensures { λ r. ⌜ r ≡ blank started family ⌝ }
+{
+    let entry = unused_entry();
+    let free = no_ban();
+    Memory {
+        cache: [entry; 32],
+        bans: [free; 32],
+        started,
+        family,
+        clock: 0,
+    }
+}
+
+// The memory of a refused start.
+pub fn never_started() -> Memory
+    ensures { λ r. ⌜ r ≡ neverStarted ⌝ }
+{
+    blank_memory(false, Family::V4)
+}
+
+// Starts a memory for the family whose addresses have `size` bytes.
+pub fn start(size: usize) -> Started
+    ensures { λ r. ⌜ r ≡ startOf size ⌝ }
+{
+    if !is_size(size) {
+        return Started {
+            memory: never_started(),
+            check: Check::Refused(Refusal::Address),
+        };
+    }
+    Started {
+        memory: blank_memory(true, family_of(size)),
+        check: Check::Clear,
+    }
+}
+
+// The memory at a time.
+fn at_time(mut m: Memory, time: u64) -> Memory
+    ensures { λ r. ⌜ r ≡ moved m time (m .cache) (m .bans) ⌝ }
+{
+    m.clock = time;
+    m
+}
+
+// How many bytes of the data offered are sent.
+fn sent_with(family: Family, banned: bool, e: Entry, offered: usize) -> usize
+    ensures { λ r. ⌜ r ≡ sentWith family banned e offered ⌝ }
+{
+    if banned {
+        return 0;
+    }
+    if cookie_length(e) == 0 {
+        return 0;
+    }
+    let mss = e.mss;
+    let room = data_room(family, mss) as usize;
+    if offered < room { offered } else { room }
+}
+
+// Writes an opening to a server, as the memory has it at the time: an output of under 1,504 bytes is refused. The answer says how many bytes of data were sent.
+pub fn connect(
+    m: Memory,
+    time: u64,
+    own: &[u8],
+    server: &[u8],
+    o: ActiveOpen,
+    offered: &[u8],
+    out: &mut [u8],
+) -> Outcome
+    ensures { λ r. ⌜ r ≡ step m (Call.connect time (now (own .entry)) (now (server .entry)) o (now (offered .entry)) (length (now (out .entry)))) ⌝ }
+    ensures { λ _. ⌜ now (out .exit) ≡ overwrite (outputOf m (Call.connect time (now (own .entry)) (now (server .entry)) o (now (offered .entry)) (length (now (out .entry))))) (now (out .entry)) ⌝ }
+{
+    let family = m.family;
+    match check_open(
+        m.started,
+        family,
+        m.clock,
+        time,
+        own,
+        server,
+        o.mss,
+        out.len(),
+    ) {
+        Check::Refused(why) => refused(m, why),
+        Check::Clear => {
+            let b = block_of(server);
+            let banned = is_banned(m, time, b, o.dest);
+            let e = entry_for(m, b);
+            let n = sent_with(family, banned, e, offered.len());
+            let opening = Opening {
+                source: o.source,
+                dest: o.dest,
+                iss: o.iss,
+                mss: o.mss as u16,
+                fast: !banned,
+            };
+            let len = cookie_length(e);
+            let cookie = e.cookie;
+            let written = write_opening(out, own, server, opening, &cookie[..len], &offered[..n]);
+            Outcome {
+                memory: at_time(m, time),
+                event: Event::Opened(n as u32),
+                written,
+            }
+        }
+    }
+}
+
+fn is_given(mss: Mss) -> bool
+    ensures { λ r. ⌜ r ≡ isGiven mss ⌝ }
+{
+    match mss {
+        Mss::NotGiven => false,
+        Mss::Given(_) => true,
+    }
+}
+
+// Stores what an answer brings, if it brings a cookie or a segment size.
+fn learn(m: Memory, b: [u8; 16], cookie: &[u8], mss: Mss) -> Memory
+    requires { ⌜ length (now cookie) ≤ 16 ⌝ }
+    ensures { λ r. ⌜ r ≡ withCache m (cacheAfter b (now (cookie .entry)) mss (m .cache)) ⌝ }
+{
+    if cookie.len() == 0 {
+        if !is_given(mss) {
+            return m;
+        }
+    }
+    let old = entry_for(m, b);
+    remember(m, learned(old, b, cookie, mss))
+}
+
+// Bans the server if data was sent and none acknowledged.
+fn judge(m: Memory, time: u64, b: [u8; 16], a: Attempt, acknowledged: u32) -> Memory
+    requires { ⌜ time ≤ 2 ^ 48 ⌝ }
+    ensures { λ r. ⌜ r ≡ withBans m (bansAfter time b (a .dest) (isNegative (a .sent) acknowledged) (m .bans)) ⌝ }
+{
+    if a.sent == 0 {
+        return m;
+    }
+    if acknowledged != 0 {
+        return m;
+    }
+    set_ban(m, time, b, a.dest)
+}
+
+// Takes the answer to an attempt. The answer of the call says how many bytes of the data sent it acknowledges.
+pub fn answer(m: Memory, time: u64, own: &[u8], server: &[u8], a: Attempt, seg: &[u8]) -> Outcome
+    ensures { λ r. ⌜ r ≡ step m (Call.answer time (now (own .entry)) (now (server .entry)) a (now (seg .entry))) ⌝ }
+{
+    let family = m.family;
+    match check_answer(m.started, family, m.clock, time, own, server, a, seg) {
+        Reply::Dropped(why) => refused(m, why),
+        Reply::Acknowledged(n) => {
+            let b = block_of(server);
+            let options = segment_options(seg);
+            let fast = options.fast;
+            let mss = options.mss;
+            let known = learn(m, b, cookie(option_area(seg), fast), mss);
+            let judged = judge(known, time, b, a, n);
+            Outcome {
+                memory: at_time(judged, time),
+                event: Event::Answered(n),
+                written: 0,
+            }
+        }
+    }
+}
+
+// Notes that an attempt at a server timed out or met an ICMP error.
+pub fn failed(m: Memory, time: u64, server: &[u8], port: u16) -> Outcome
+    ensures { λ r. ⌜ r ≡ step m (Call.failed time (now (server .entry)) port) ⌝ }
+{
+    let family = m.family;
+    match check_name(m.started, family, m.clock, time, server) {
+        Check::Refused(why) => refused(m, why),
+        Check::Clear => {
+            let b = block_of(server);
+            let next = set_ban(m, time, b, port);
+            Outcome {
+                memory: at_time(next, time),
+                event: Event::Noted,
+                written: 0,
+            }
+        }
+    }
+}
