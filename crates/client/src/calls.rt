@@ -203,6 +203,7 @@ pub fn answer(m: Memory, time: u64, own: &[u8], server: &[u8], a: Attempt, seg: 
     ensures { λ r. ⌜ r ≡ step m (Call.answer time (now (own .entry)) (now (server .entry)) a (now (seg .entry))) ⌝ }
 {
     let family = m.family;
+    let next = at_time(m, time);
     match check_answer(m.started, family, m.clock, time, own, server, a, seg) {
         Reply::Dropped(why) => refused(m, why),
         Reply::Acknowledged(n) => {
@@ -210,10 +211,9 @@ pub fn answer(m: Memory, time: u64, own: &[u8], server: &[u8], a: Attempt, seg: 
             let options = segment_options(seg);
             let fast = options.fast;
             let mss = options.mss;
-            let known = learn(m, b, cookie(option_area(seg), fast), mss);
-            let judged = judge(known, time, b, a, n);
+            let known = learn(next, b, cookie(option_area(seg), fast), mss);
             Outcome {
-                memory: at_time(judged, time),
+                memory: judge(known, time, b, a, n),
                 event: Event::Answered(n),
                 written: 0,
             }

@@ -7,6 +7,9 @@ use borrow.Author.Needs.{needs}
 use Rattle.client.proofs.calls.answer.Statement.{statement}
 use Rattle.client.proofs.calls.answer.Tie as tie
 
+at-time-requires : tie.Need-at-time-requires
+at-time-requires c κs = search needs
+
 check-answer-requires : tie.Need-check-answer-requires
 check-answer-requires c κs = search needs
 
@@ -32,33 +35,31 @@ cookie-requires : tie.Need-cookie-requires
 cookie-requires c κs = search needs
 
 learn-requires : tie.Need-learn-requires
-learn-requires c κs = rw (c .cookie .ensures, c .before .option-area .ensures, c .before .before .segment-options .ensures) (brought-most (c .before .before .before .before .before .before .before .before .before .before .before .args .seg .now))
+learn-requires c κs = rw (c .cookie .ensures, c .before .option-area .ensures, c .before .before .segment-options .ensures) (brought-most (c .before .before .before .before .before .before .before .before .before .before .before .before .args .seg .now))
 
 judge-requires : tie.Need-judge-requires
 judge-requires c κs =
-    let a = c .before .before .before .before .before .before .before .before .before .before .before .before .args in
+    let a = c .before .before .before .before .before .before .before .before .before .before .before .before .before .args in
     answer-time (a .m) (a .time) (a .own .now) (a .server .now) (a .a) (a .seg .now) (sym (c .before .before .before .before .before .before .before .before .check-answer .ensures) ∙ c .before .before .before .before .before .before .n .given .1)
-
-at-time-requires : tie.Need-at-time-requires
-at-time-requires c κs = search needs
 
 returns : tie.Need-returns
 returns c =
-    let a = c .before .before .before .before .before .before .before .before .args in
+    let a = c .before .before .before .before .before .before .before .before .before .args in
     answer-refused (a .m) (a .time) (a .own .now) (a .server .now) (a .a) (a .seg .now) (c .refused .ensures) (sym (c .before .before .before .before .check-answer .ensures) ∙ c .before .before .why .given .1)
 
 returns-2 : tie.Need-returns-2
 returns-2 c =
     let a = c .before .before .before .before .before .before .before .before .before .before .before .before .before .before .args in
-    let said = sym (c .before .before .before .before .before .before .before .before .before .before .check-answer .ensures) ∙ c .before .before .before .before .before .before .before .before .n .given .1 in
-    let b = answer-kept (a .m) (a .time) (a .own .now) (a .server .now) (a .a) (a .seg .now) said (c .before .before .before .before .before .before .block-of .ensures) in
+    let said = sym (c .before .before .before .before .before .before .before .before .before .check-answer .ensures) ∙ c .before .before .before .before .before .before .before .n .given .1 in
+    let b = answer-kept (a .m) (a .time) (a .own .now) (a .server .now) (a .a) (a .seg .now) said (c .before .before .before .before .before .block-of .ensures) in
     answer-done (a .m) (a .time) (a .own .now) (a .server .now) (a .a) (a .seg .now) said _
-    (rw (c .before .judge .ensures, c .before .before .learn .ensures, b, c .before .before .before .cookie .ensures, c .before .before .before .before .option-area .ensures, c .before .before .before .before .before .segment-options .ensures) at (c .at-time .ensures))
+    (rw (c .before .learn .ensures, c .before .before .before .before .before .before .before .before .before .before .at-time .ensures, b, c .before .before .cookie .ensures, c .before .before .before .option-area .ensures, c .before .before .before .before .segment-options .ensures) at (c .judge .ensures))
 
 pub answer-spec : {M : Type 1} → statement M
 answer-spec =
     tie.close
     (tie.spec
+    at-time-requires
     check-answer-requires
     enum-known-why
     refused-requires
@@ -69,6 +70,5 @@ answer-spec =
     cookie-requires
     learn-requires
     judge-requires
-    at-time-requires
     returns
     returns-2)
