@@ -5,5 +5,6 @@ pub mod Inverse
 pub mod Xor
 pub mod Packed
 pub mod Rounds
+pub mod Bounds
 pub mod Schedule
 pub mod Vectors

@@ -4,9 +4,8 @@ use mathlib.Core.Path.{_≡_, refl, sym, ap, _∙_}
 use mathlib.Core.Bool.{Bool}
 use mathlib.Core.List.{List, [], _++_}
 use native.Mathlib.Omega.{arith}
-use lib.Dec.{leb}
 use lib.ListN.{length, take}
-use borrow.Author.Tests.{not-false, leb-true}
+use borrow.Author.Tests.{not-false}
 use Rattle.segment.specs.Refusal.{Checks, refusal}
 use Rattle.segment.specs.Header.{fieldsOf}
 use Rattle.segment.specs.Options.{optionsOf}
@@ -14,7 +13,6 @@ use Rattle.segment.specs.Write.{overwrite, openingBytes}
 use Rattle.segment.specs.declared.refusal.Refusal.{Refusal}
 use Rattle.segment.specs.declared.refusal.Check.{Check}
 use Rattle.segment.specs.declared.refusal.Check.the-variants.{Clear, Refused}
-use Rattle.segment.proofs.Bools.{and-true}
 use Rattle.endpoint.specs.Address.{block}
 use Rattle.endpoint.specs.Checks.{isUntimely, timely, addressed}
 use Rattle.endpoint.proofs.Blocks.{family-short, kept}
@@ -23,7 +21,7 @@ use Rattle.endpoint.proofs.Clear.{every-check}
 use Rattle.client.specs.Cache.{cookieLength, entryFor}
 use Rattle.client.specs.Bans.{isBanned, banned}
 use Rattle.client.specs.Call.{Call, connect, answer, failed}
-use Rattle.client.specs.Refusals.{isMss, countIn, openChecks, answerChecks, judged, judgedReply}
+use Rattle.client.specs.Refusals.{countIn, openChecks, answerChecks, judged, judgedReply}
 use Rattle.client.specs.Step.{openingFor, sentWith, cookieIn, cacheAfter, isNegative, bansAfter, moved, after, doneEvent, doneOutput, outcomeOf, step, outputIf, outputOf}
 use Rattle.client.specs.declared.answer.ActiveOpen.{ActiveOpen}
 use Rattle.client.specs.declared.answer.Attempt.{Attempt}
@@ -33,6 +31,7 @@ use Rattle.client.specs.declared.cache.Entry.{Entry}
 use Rattle.client.specs.declared.checks.Reply.{Reply}
 use Rattle.client.specs.declared.checks.Reply.the-variants.{Dropped, Acknowledged}
 use Rattle.client.specs.declared.state.Memory.{Memory}
+use Rattle.client.proofs.Reading.{mss-most}
 
 abbrev pub refusedWith : Memory → Refusal → Outcome
 refusedWith m r = record { memory = m; event = events.Refused r; written = 0 }
@@ -52,7 +51,7 @@ module _ (m : Memory) (c : Call) where
   unfolding outputOf
   output-refused e = ap (outputIf m c) e
 
-  output-done : judged m c ≡ Clear → outputOf m c ≡ doneOutput m c
+  pub output-done : judged m c ≡ Clear → outputOf m c ≡ doneOutput m c
   unfolding outputOf
   output-done e = ap (outputIf m c) e
 
@@ -80,10 +79,9 @@ module _ (m : Memory) (t : ℕ) (own server : List ℕ) (o : ActiveOpen) (offere
 
     -- own MSS fits two bytes
     pub open-mss : o .mss ≤ 1460
-    unfolding isMss
     open-mss =
         let p = every-check (openChecks (m .started) (m .family) (isUntimely (m .clock) t) own server (o .mss) (length out)) clear in
-        leb-true (o .mss) 1460 (and-true (leb 536 (o .mss)) (leb (o .mss) 1460) (not-false _ (p .1 .1 .1 .1 .1 .0)) .1)
+        mss-most (o .mss) (not-false _ (p .1 .1 .1 .1 .1 .0))
 
     module _ (b : List ℕ) (bn : Bool) (e : Entry) (n len w : ℕ) (next : Memory) (out′ : List ℕ) where
       pub open-done : b ≡ block server → bn ≡ isBanned t b (o .dest) (m .bans) → e ≡ entryFor b (m .cache) → n ≡ sentWith (m .family) bn e (length offered)

@@ -100,11 +100,14 @@ fn check_reply(a: Attempt, h: Header) -> Reply
     if !is_syn_ack(h.flags) {
         return Reply::Dropped(Refusal::Flags);
     }
-    if 1460 < a.sent {
+    let sent = a.sent;
+    let iss = a.iss;
+    let ack = h.ack;
+    if 1460 < sent {
         return Reply::Dropped(Refusal::Range);
     }
-    let n = acknowledged_bytes(a.iss, h.ack);
-    if a.sent < n {
+    let n = acknowledged_bytes(iss, ack);
+    if sent < n {
         return Reply::Dropped(Refusal::Sequence);
     }
     Reply::Acknowledged(n)

@@ -1,7 +1,7 @@
 -- New openings: when one is clear, what it is answered, and what it does to the table. Assumes nothing.
 use Prim.Native.Nat.{ℕ, _+_, _≤_, _<_}
 use mathlib.Core.Path.{_≡_, refl, sym, ap, _∙_}
-use mathlib.Core.Bool.{Bool, true, false, not, true≢false, false≢true}
+use mathlib.Core.Bool.{Bool, true, false, not, _&&_, true≢false, false≢true, and-false}
 use mathlib.Core.List.{List, [], _∷_, _++_}
 use native.Mathlib.Omega.{arith}
 use borrow.Author.Tests.{ltb-true, ltb-false, lt-ltb, not-true, not-false}
@@ -18,7 +18,7 @@ use Rattle.endpoint.specs.Lists.{bit, tally, firstIndex}
 use Rattle.endpoint.specs.Address.{Peer, block}
 use Rattle.endpoint.specs.Checks.{isUntimely}
 use Rattle.endpoint.proofs.Sums.{sum-set, some-passes, first-passes, none-passes}
-use Rattle.listener.specs.Cookie.{carriedBy, right}
+use Rattle.listener.specs.Cookie.{request, carriedBy, rightUnder, right}
 use Rattle.listener.specs.Table.{isLive, isPending, isFree, freeSlot, newSlot, holdsPeer, freePlace, pendingAt}
 use Rattle.listener.specs.Call.{segment, sender}
 use Rattle.listener.specs.View.{known, view}
@@ -27,6 +27,7 @@ use Rattle.listener.specs.Step.{accepts, isEarly, isFresh, newEvent, ans
 use Rattle.listener.specs.declared.table.Status.{Status}
 use Rattle.listener.specs.declared.table.Status.the-variants.{Free, SynReceived, FastOpen, ResetHeld, Established}
 use Rattle.listener.specs.declared.table.Slot.{Slot}
+use Rattle.listener.specs.declared.state.View.{View}
 use Rattle.listener.specs.declared.state.Listener.{Listener}
 
 -- The table
@@ -113,6 +114,16 @@ pub is-early : (l : Listener) (t : ℕ) (src seg : List ℕ) → l .settings .on
     → right (l .keys) (block src) (carriedBy seg) ≡ true → isEarly (view l t (sender src seg)) (block src) seg ≡ true
 unfolding isEarly
 is-early l t src seg on below r = rw (on, lt-ltb (pendingAt t (l .slots)) (l .settings .limit) below, r)
+
+-- a request for a cookie is not early, and gets one where Fast Open is on and pending is below the limit
+pub request-plain : (v : View) (b seg : List ℕ) → carriedBy seg ≡ request → isEarly v b seg ≡ false
+unfolding isEarly right rightUnder
+request-plain v b seg r = rw (r, and-false (v .keys .rotated)) (and-false (v .settings .on && v .below))
+
+pub request-fresh : (l : Listener) (t : ℕ) (src seg : List ℕ) → l .settings .on ≡ true → pendingAt t (l .slots) < l .settings .limit
+    → carriedBy seg ≡ request → isFresh (view l t (sender src seg)) (block src) seg ≡ true
+unfolding isFresh rightUnder
+request-fresh l t src seg on below r = rw (on, lt-ltb (pendingAt t (l .slots)) (l .settings .limit) below, r)
 
 module _ (l : Listener) (t : ℕ) (src seg : List ℕ) (iss room : ℕ) (syn : kindOf (fieldsOf seg .flags) ≡ Syn)
     (new : known (view l t (sender src seg)) ≡ false) where

@@ -1,12 +1,8 @@
 -- Lists of bytes. Assumes nothing.
-use Prim.Native.Nat.{ℕ, suc, _<_}
+use Prim.Native.Nat.{ℕ, zero, suc, _<_}
+use native.Mathlib.Omega.{arith}
 use mathlib.Core.List.{List, [], _∷_, _++_}
-use Rattle.segment.specs.Bytes.{byteAt}
-
--- each number of a list is a byte
-abbrev pub Bytes : List ℕ → Type 0
-Bytes [] = Unit {0}
-Bytes (x ∷ xs) = (x < 256) × Bytes xs
+use Rattle.segment.specs.Bytes.{Bytes, byteAt}
 
 pub bytes-append : (a b : List ℕ) → Bytes a → Bytes b → Bytes (a ++ b)
 bytes-append [] b p q = q
@@ -16,3 +12,8 @@ bytes-append (x ∷ xs) b p q = (p .0, bytes-append xs b (p .1) q)
 pub bytes-of : (s : List ℕ) → ((i : ℕ) → byteAt s i < 256) → Bytes s
 bytes-of [] h = tt
 bytes-of (x ∷ xs) h = (h 0, bytes-of xs (λ i. h (suc i)))
+
+pub each-byte : (s : List ℕ) → Bytes s → (i : ℕ) → byteAt s i < 256
+each-byte [] h i = omega arith
+each-byte (x ∷ xs) h zero = h .0
+each-byte (x ∷ xs) h (suc i) = each-byte xs (h .1) i

@@ -6,6 +6,7 @@ use mathlib.Core.List.{List, []}
 use native.Mathlib.Omega.{arith}
 use lib.ListN.{length}
 use borrow.Author.Tests.{le-leb, ne-eqb}
+use Rattle.segment.specs.Bytes.{Bytes}
 use Rattle.segment.specs.Header.{SYN, ACK, has, kindOf, synAck}
 use Rattle.segment.specs.Options.{isCookieLength}
 use Rattle.segment.specs.Checksum.{oneFamily}
@@ -15,7 +16,6 @@ use Rattle.segment.specs.declared.header.Kind.the-variants.{Syn}
 use Rattle.segment.specs.declared.write.Answer.{Answer}
 use Rattle.segment.specs.declared.write.Opening.{Opening}
 use Rattle.segment.specs.declared.write.Outgoing.{Outgoing}
-use Rattle.segment.proofs.ByteLists.{Bytes}
 use Rattle.segment.proofs.Cookie.{Inside, cookie-length-back}
 use Rattle.segment.proofs.Writes.{options-plain, options-fast}
 use Rattle.segment.proofs.Written.{options-most, segment-length}

@@ -5,9 +5,9 @@ use mathlib.Core.List.{List, [], _∷_, _++_}
 use native.Mathlib.Nat.{add-zero, add-assoc}
 use native.Mathlib.Omega.{arith}
 use lib.ListN.{length}
-use Rattle.segment.specs.Bytes.{be16, word}
+use Rattle.segment.specs.Bytes.{Bytes, be16, word}
 use Rattle.segment.specs.Checksum.{onesAdd, onesSum, complement}
-use Rattle.segment.proofs.ByteLists.{Bytes, bytes-append}
+use Rattle.segment.proofs.ByteLists.{bytes-append}
 
 -- the word that a total of words comes to once its carries are added at the low end: 0 for 0 alone, else 1 to 65535
 unfoldable norm : ℕ → ℕ

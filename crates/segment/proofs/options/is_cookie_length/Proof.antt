@@ -2,7 +2,6 @@
 -- Assumes nothing.
 use borrow.Author.Tests.{le-leb, lt-leb}
 use Rattle.segment.specs.Options.{isCookieLength}
-use borrow.Author.Needs.{needs}
 use Rattle.segment.proofs.options.is_cookie_length.Statement.{statement}
 use Rattle.segment.proofs.options.is_cookie_length.Tie as tie
 

@@ -1,0 +1,88 @@
+-- The two ends fit. Assumes nothing.
+use Prim.Native.Nat.{ℕ, min}
+use mathlib.Core.Path.{_≡_, ap, sym, _∙_}
+use mathlib.Core.Bool.{Bool, true, false}
+use mathlib.Core.List.{[]}
+use native.Mathlib.Omega.{arith}
+use lib.ListN.{length}
+use lib.Seq.{take-take}
+use Rattle.endpoint.specs.Address.{block}
+use Rattle.listener.specs.Cookie.{request, carriedBy}
+use Rattle.listener.specs.Call.{acceptedOf}
+use Rattle.listener.specs.View.{viewOf}
+use Rattle.listener.specs.Step as listener
+use Rattle.listener.specs.declared.state.Listener.{Listener}
+use Rattle.listener.specs.declared.answer.Event.{Event}
+use Rattle.listener.specs.declared.answer.Event.the-variants as events
+use Rattle.listener.specs.declared.answer.Outcome.{Outcome}
+use Rattle.listener.proofs.Openings.{is-early, request-plain, request-fresh, new-clear, step-new}
+use Rattle.listener.proofs.Parts as parts
+use Rattle.client.specs.declared.answer.Event.the-variants.{Answered}
+use Rattle.client.specs.declared.state.Memory.{Memory}
+use Rattle.handshake.specs.Handshake.{Asked, opening, sent, Heard, hearing, Ends, carriedWith, stored, Issued, Taken, Later, Welcome, FirstVisit, upToRoom, EarlyData, Handshake}
+use Rattle.handshake.proofs.Opening.{payload-length, opening-read-by-listener, wire-clear, right-cookie}
+use Rattle.handshake.proofs.Answer.{answer-read-by-client}
+
+module _ (m : Memory) (l : Listener) (a : Asked) (e : Ends m l a) where
+  module _ (h : Heard) (w : Welcome m l a h) where
+    -- a welcome opening is done
+    taken : Taken m l a h
+    taken =
+        record {
+          clear = new-clear l (h .time) (a .own) (opening m a) (h .iss) (h .room) (opening-read-by-listener m l a e .kind) (w .new)
+              (wire-clear m l a e h (w .listens)) (w .place);
+          new = w .new;
+          iss = w .iss;
+        }
+
+    -- without a cookie it is plain, and gets one
+    request-read : stored m a ≡ [] → carriedBy (opening m a) ≡ request
+    request-read none =
+        opening-read-by-listener m l a e .option ∙ ap (λ (t : Bool). carriedWith t (stored m a)) (w .free) ∙ ap (carriedWith false) none
+
+    plain-event : stored m a ≡ [] → listener.step l (hearing m a h) .event ≡ events.Regular
+    plain-event none =
+        ap (λ (o : Outcome). o .event)
+        (step-new l (h .time) (a .own) (opening m a) (h .iss) (h .room) (opening-read-by-listener m l a e .kind) (w .new) false
+        (request-plain (viewOf l (hearing m a h)) (block (a .own)) (opening m a) (request-read none)) (taken .clear))
+
+    first-visit : stored m a ≡ [] → (m′ : Memory) (t : ℕ) → Later m m′ t → FirstVisit m l a h m′ t
+    first-visit none m′ t g =
+        let read = answer-read-by-client m l a e h taken m′ t g in
+        record {
+          event = plain-event none;
+          answered = read .event ∙ ap (λ (x : Event). Answered (acceptedOf x)) (plain-event none);
+          kept = read .kept (request-fresh l (h .time) (a .own) (opening m a) (w .on) (w .below) (request-read none));
+        }
+
+    -- with one that was issued it is early
+    early-event : Issued (l .keys) (block (a .own)) (stored m a) → listener.step l (hearing m a h) .event ≡ events.FastOpen (upToRoom m l a)
+    early-event i =
+        let right = right-cookie m l a e (w .free) i in
+        let early = is-early l (h .time) (a .own) (opening m a) (w .on) (w .below) right in
+        ap (λ (o : Outcome). o .event)
+        (step-new l (h .time) (a .own) (opening m a) (h .iss) (h .room) (opening-read-by-listener m l a e .kind) (w .new) true early (taken .clear))
+        ∙ ap (λ (n : ℕ). events.FastOpen (min n (l .settings .room))) (payload-length m l a e)
+
+    early-data : Issued (l .keys) (block (a .own)) (stored m a) → (m′ : Memory) (t : ℕ) → Later m m′ t → EarlyData m l a h m′ t
+    early-data i m′ t g =
+        let count : upToRoom m l a ≡ acceptedOf (listener.step l (hearing m a h) .event) = ap acceptedOf (sym (early-event i)) in
+        record {
+          event = early-event i;
+          part =
+              sym (parts.taken (opening m a) (listener.step l (hearing m a h) .event) (sym (opening-read-by-listener m l a e .content)) count
+              (omega (arith, ap length (opening-read-by-listener m l a e .content), payload-length m l a e)))
+              ∙ take-take (upToRoom m l a) (sent m a) (a .offered) (omega arith);
+          answered = answer-read-by-client m l a e h taken m′ t g .event ∙ ap Answered (sym count);
+        }
+
+  pub handshake : Handshake m l a
+  handshake =
+      record {
+        opened = opening-read-by-listener m l a e;
+        heard = wire-clear m l a e;
+        trusted = right-cookie m l a e;
+        answered = answer-read-by-client m l a e;
+        first = first-visit;
+        early = early-data;
+      }

@@ -1,0 +1,213 @@
+-- The two ends fit: what the client writes is read by the listener as it was meant, and what the listener answers is read by the client.
+-- Assumes nothing.
+use Prim.Native.Nat.{ℕ, _^_, _≤_, _<_, min}
+use mathlib.Core.Path.{_≡_}
+use mathlib.Core.List.{List, [], _∷_}
+use mathlib.Core.Bool.{Bool, true, false, cond}
+use lib.ListN.{length, take}
+use Rattle.segment.specs.Bytes.{Bytes}
+use Rattle.segment.specs.Refusal.{refusal}
+use Rattle.segment.specs.Header.{malformed, fieldsOf, payloadOf, kindOf}
+use Rattle.segment.specs.Checksum.{checksumRight}
+use Rattle.segment.specs.Options.{optionsOf}
+use Rattle.segment.specs.declared.refusal.Check.the-variants.{Clear}
+use Rattle.segment.specs.declared.header.Kind.the-variants.{Syn}
+use Rattle.segment.specs.declared.options.Mss.the-variants.{Given}
+use Rattle.endpoint.specs.Address.{block}
+use Rattle.endpoint.specs.Checks.{isUntimely}
+use Rattle.listener.specs.Cookie.{Carried, nothing, request, cookie, cookieUnder, carriedBy, right}
+use Rattle.listener.specs.Table.{freePlace, pendingAt}
+use Rattle.listener.specs.Call.{segment, acceptedOf, acceptedPart}
+use Rattle.listener.specs.Call as listener-calls
+use Rattle.listener.specs.View.{known, ownAddress, viewOf}
+use Rattle.listener.specs.Refusals.{wireChecks}
+use Rattle.listener.specs.Refusals as listener-checks
+use Rattle.listener.specs.Step.{isFresh}
+use Rattle.listener.specs.Step as listener
+use Rattle.listener.specs.declared.state.Keys.{Keys}
+use Rattle.listener.specs.declared.state.Listener.{Listener}
+use Rattle.listener.specs.declared.answer.Event.the-variants as events
+use Rattle.client.specs.Cache.{cookieOf}
+use Rattle.client.specs.Call.{connect, answer, countOf}
+use Rattle.client.specs.Call as client-calls
+use Rattle.client.specs.Refusals as client-checks
+use Rattle.client.specs.Step.{cookieIn, bannedFor, storedFor}
+use Rattle.client.specs.Step as client
+use Rattle.client.specs.declared.answer.ActiveOpen.{ActiveOpen}
+use Rattle.client.specs.declared.answer.Attempt.{Attempt}
+use Rattle.client.specs.declared.answer.Event.the-variants.{Answered}
+use Rattle.client.specs.declared.state.Memory.{Memory}
+
+-- The three calls: the client opens, the listener takes the opening, the client takes the answer.
+
+-- what a client is asked for: the time, both addresses, ports and numbers, the data offered, the output's length
+pub record Asked : Type 0 where
+  pub time : ℕ
+  pub own : List ℕ
+  pub server : List ℕ
+  pub ends : ActiveOpen
+  pub offered : List ℕ
+  pub room : ℕ
+
+abbrev pub asking : Asked → client-calls.Call
+asking a = connect (a .time) (a .own) (a .server) (a .ends) (a .offered) (a .room)
+
+-- the opening that it writes, and how many of the bytes offered it says it sent
+abbrev pub opening : Memory → Asked → List ℕ
+opening m a = client.outputOf m (asking a)
+
+abbrev pub sent : Memory → Asked → ℕ
+sent m a = countOf (client.step m (asking a) .event)
+
+-- what goes with an opening at the listener: the time, its initial number, the output's length
+pub record Heard : Type 0 where
+  pub time : ℕ
+  pub iss : ℕ
+  pub room : ℕ
+
+abbrev pub hearing : Memory → Asked → Heard → listener-calls.Call
+hearing m a h = segment (h .time) (a .own) (opening m a) (h .iss) (h .room)
+
+-- the answer that the listener writes, and how many bytes it accepted
+abbrev pub reply : Memory → Listener → Asked → Heard → List ℕ
+reply m l a h = listener.outputOf l (hearing m a h)
+
+abbrev pub accepted : Memory → Listener → Asked → Heard → ℕ
+accepted m l a h = acceptedOf (listener.step l (hearing m a h) .event)
+
+-- the answer comes to the client, with the attempt as the program kept it
+abbrev pub attempted : Memory → Asked → Attempt
+attempted m a = record { source = a .ends .source; dest = a .ends .dest; iss = a .ends .iss; sent = sent m a }
+
+abbrev pub returning : Memory → Listener → Asked → Heard → ℕ → client-calls.Call
+returning m l a h t = answer t (a .own) (a .server) (attempted m a) (reply m l a h)
+
+-- What is asked of both ends
+
+pub record Ends (m : Memory) (l : Listener) (a : Asked) : Type 0 where
+  -- the client's call is done
+  pub done : client-checks.judged m (asking a) ≡ Clear
+  -- the listener has the address and the port that the client calls
+  pub address : ownAddress (l .home) ≡ a .server
+  pub port : l .home .port ≡ a .ends .dest
+  -- numbers and arrays are such as the calls' types allow
+  pub source : a .ends .source < 65536
+  pub dest : a .ends .dest < 65536
+  pub iss : a .ends .iss < 2 ^ 32
+  pub own-bytes : Bytes (a .own)
+  pub server-bytes : Bytes (a .server)
+  pub offered-bytes : Bytes (a .offered)
+  pub stored-length : length (storedFor m (a .server) .cookie) ≡ 16
+  pub stored-bytes : Bytes (storedFor m (a .server) .cookie)
+  pub home-length : length (l .home .own) ≡ 16
+  pub key-bytes : Bytes (l .keys .present)
+  pub mss : l .settings .mss < 65536
+
+-- What the listener reads
+
+-- the option of an opening: none for a banned server, a request where no cookie is stored, else the stored cookie
+abbrev pub carriedWith : Bool → List ℕ → Carried
+carriedWith true c = nothing
+carriedWith false [] = request
+carriedWith false (x ∷ c) = cookie (x ∷ c)
+
+abbrev pub stored : Memory → Asked → List ℕ
+stored m a = cookieOf (storedFor m (a .server))
+
+abbrev pub isBanned : Memory → Asked → Bool
+isBanned m a = bannedFor m (a .time) (a .server) (a .ends)
+
+-- it is an opening between the two, with the client's number, option and data
+pub record OpeningRead (m : Memory) (a : Asked) : Type 0 where
+  pub formed : malformed (opening m a) ≡ false
+  pub checksum : checksumRight (a .own) (a .server) (opening m a) ≡ true
+  pub source : fieldsOf (opening m a) .source ≡ a .ends .source
+  pub dest : fieldsOf (opening m a) .dest ≡ a .ends .dest
+  pub seq : fieldsOf (opening m a) .seq ≡ a .ends .iss
+  pub kind : kindOf (fieldsOf (opening m a) .flags) ≡ Syn
+  pub option : carriedBy (opening m a) ≡ carriedWith (isBanned m a) (stored m a)
+  pub content : payloadOf (opening m a) ≡ take (sent m a) (a .offered)
+
+-- a listener that was started, a time that it takes, and room for the longest answer
+pub record Listens (l : Listener) (h : Heard) : Type 0 where
+  pub started : l .home .started ≡ true
+  pub timely : isUntimely (l .clock) (h .time) ≡ false
+  pub room : 36 ≤ h .room
+
+-- a cookie that the listener issued for the address with this block: under its present key, or under the previous one if there is one
+pub data Issued (k : Keys) (b c : List ℕ) : Type 0 where
+  now : c ≡ cookieUnder (k .present) b → Issued k b c
+  before : k .rotated ≡ true → c ≡ cookieUnder (k .previous) b → Issued k b c
+
+-- What the client reads
+
+-- the listener's call is done and the client's name is new to it; its initial number is such as the call's type allows
+pub record Taken (m : Memory) (l : Listener) (a : Asked) (h : Heard) : Type 0 where
+  pub clear : listener-checks.judged l (hearing m a h) ≡ Clear
+  pub new : known (viewOf l (hearing m a h)) ≡ false
+  pub iss : h .iss < 2 ^ 32
+
+-- the client's memory when the answer comes, whatever came between: started, of the same family, and at a time that it takes
+pub record Later (m m′ : Memory) (t : ℕ) : Type 0 where
+  pub started : m′ .started ≡ true
+  pub family : m′ .family ≡ m .family
+  pub timely : isUntimely (m′ .clock) t ≡ false
+
+-- the answer has a fresh cookie
+abbrev pub renewed : Memory → Listener → Asked → Heard → Bool
+renewed m l a h = isFresh (viewOf l (hearing m a h)) (block (a .own)) (opening m a)
+
+-- the cookie that the listener now issues for the client
+abbrev pub current : Listener → Asked → List ℕ
+current l a = cookieUnder (l .keys .present) (block (a .own))
+
+-- the client takes it, with the count that the listener accepted, its MSS and, if there is one, its fresh cookie, which is then the stored one
+pub record AnswerRead (m : Memory) (l : Listener) (a : Asked) (h : Heard) (m′ : Memory) (t : ℕ) : Type 0 where
+  pub event : client.step m′ (returning m l a h t) .event ≡ Answered (accepted m l a h)
+  pub mss : optionsOf (reply m l a h) .mss ≡ Given (l .settings .mss)
+  pub cookie : cookieIn (reply m l a h) ≡ cond (renewed m l a h) (current l a) []
+  pub kept : renewed m l a h ≡ true → stored (client.step m′ (returning m l a h t) .memory) a ≡ current l a
+
+-- Two visits: the first gets a cookie, and with that cookie the data of a later one is there in one round trip.
+
+-- Fast Open is on, pending is below the limit, a place is free, the name is new, and the server is not banned
+pub record Welcome (m : Memory) (l : Listener) (a : Asked) (h : Heard) : Type 0 where
+  pub listens : Listens l h
+  pub on : l .settings .on ≡ true
+  pub below : pendingAt (h .time) (l .slots) < l .settings .limit
+  pub place : freePlace (h .time) (l .slots) < 64
+  pub new : known (viewOf l (hearing m a h)) ≡ false
+  pub iss : h .iss < 2 ^ 32
+  pub free : isBanned m a ≡ false
+
+-- no data goes with a request, and the client has the cookie then
+pub record FirstVisit (m : Memory) (l : Listener) (a : Asked) (h : Heard) (m′ : Memory) (t : ℕ) : Type 0 where
+  pub event : listener.step l (hearing m a h) .event ≡ events.Regular
+  pub answered : client.step m′ (returning m l a h t) .event ≡ Answered 0
+  pub kept : stored (client.step m′ (returning m l a h t) .memory) a ≡ current l a
+
+-- the bytes sent, up to the early room
+abbrev pub upToRoom : Memory → Listener → Asked → ℕ
+upToRoom m l a = min (sent m a) (l .settings .room)
+
+-- the listener hands over the data at once, and the client learns how much of it
+pub record EarlyData (m : Memory) (l : Listener) (a : Asked) (h : Heard) (m′ : Memory) (t : ℕ) : Type 0 where
+  pub event : listener.step l (hearing m a h) .event ≡ events.FastOpen (upToRoom m l a)
+  pub part : acceptedPart (opening m a) (listener.step l (hearing m a h) .event) ≡ take (upToRoom m l a) (a .offered)
+  pub answered : client.step m′ (returning m l a h t) .event ≡ Answered (upToRoom m l a)
+
+-- All of it
+
+pub record Handshake (m : Memory) (l : Listener) (a : Asked) : Type 0 where
+  -- the listener reads the opening as the client meant it
+  pub opened : OpeningRead m a
+  -- and has no refusal for it but those of an opening, 7 and 8
+  pub heard : (h : Heard) → Listens l h → refusal (wireChecks (l .home) (isUntimely (l .clock) (h .time)) (a .own) (opening m a) (h .room)) ≡ Clear
+  -- a cookie that it issued is right
+  pub trusted : isBanned m a ≡ false → Issued (l .keys) (block (a .own)) (stored m a) → right (l .keys) (block (a .own)) (carriedBy (opening m a)) ≡ true
+  -- the client reads the answer as the listener meant it
+  pub answered : (h : Heard) → Taken m l a h → (m′ : Memory) (t : ℕ) → Later m m′ t → AnswerRead m l a h m′ t
+  -- without a cookie, and with one that was issued
+  pub first : (h : Heard) → Welcome m l a h → stored m a ≡ [] → (m′ : Memory) (t : ℕ) → Later m m′ t → FirstVisit m l a h m′ t
+  pub early : (h : Heard) → Welcome m l a h → Issued (l .keys) (block (a .own)) (stored m a) → (m′ : Memory) (t : ℕ) → Later m m′ t
+      → EarlyData m l a h m′ t
