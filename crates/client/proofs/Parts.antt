@@ -51,3 +51,9 @@ pub sent-most : (f : Family) (banned : Bool) (e : Entry) (offered : ℕ) → (se
 sent-most f banned e offered =
     chosen (λ n. (n ≤ offered) × (n ≤ 1460)) (banned || eqb (cookieLength e) 0) _ _
     (λ _. (omega arith, omega arith)) (λ _. (omega arith, omega (arith, data-most f)))
+
+pub with-most : (f : Family) (banned : Bool) (e : Entry) (offered : ℕ) {n : ℕ} → n ≡ sentWith f banned e offered
+    → (n ≡ sentWith f banned e offered) × ((n ≤ offered) × (n ≤ 1460))
+with-most f banned e offered k =
+    let most = sent-most f banned e offered in
+    (k, (omega (arith, k, most .0), omega (arith, k, most .1)))

@@ -100,6 +100,7 @@ fn at_time(mut m: Memory, time: u64) -> Memory
 // How many bytes of the data offered are sent.
 fn sent_with(family: Family, banned: bool, e: Entry, offered: usize) -> usize
     ensures { λ r. ⌜ r ≡ sentWith family banned e offered ⌝ }
+    ensures { λ r. ⌜ (r ≤ offered) × (r ≤ 1460) ⌝ }
 {
     if banned {
         return 0;

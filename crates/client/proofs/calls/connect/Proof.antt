@@ -5,7 +5,7 @@ use native.Mathlib.Omega.{arith}
 use lib.ListN.{length}
 use lib.Seq.{length-take-le}
 use Rattle.client.proofs.Calling.{open-refused, open-kept, open-mss, open-done}
-use Rattle.client.proofs.Parts.{cookie-most, sent-most}
+use Rattle.client.proofs.Parts.{cookie-most}
 use borrow.Author.Needs.{needs}
 use Rattle.client.proofs.calls.connect.Statement.{statement}
 use Rattle.client.proofs.calls.connect.Tie as tie
@@ -55,9 +55,7 @@ slice-aggregate-write-opening c =
     sym (length-take-le _ (e .cookie) (omega (arith, cookie-most e, c .before .before .before .cookie-length .ensures)))
 
 slice-aggregate-write-opening-2 : tie.Need-slice-aggregate-write-opening-2
-slice-aggregate-write-opening-2 c =
-    let offered = c .before .before .before .before .before .before .before .before .before .before .before .before .before .before .before .before .before .args .offered .now in
-    sym (length-take-le (c .before .before .before .before .before .before .sent-with .result) offered (omega (arith, c .before .before .before .before .before .before .sent-with .ensures, sent-most (c .before .before .before .before .before .before .before .before .before .before .before .before .before .before .before .before .before .args .m .family) (c .before .before .before .before .before .before .before .before .is-banned .result) (c .before .before .before .before .before .before .before .entry-for .result) (length offered) .0)))
+slice-aggregate-write-opening-2 c = sym (length-take-le (c .before .before .before .before .before .before .sent-with .result) (c .before .before .before .before .before .before .before .before .before .before .before .before .before .before .before .before .before .args .offered .now) (c .before .before .before .before .before .before .sent-with .ensures .1 .0))
 
 write-opening-requires : tie.Need-write-opening-requires
 write-opening-requires c κs = search needs
@@ -66,9 +64,7 @@ at-time-requires : tie.Need-at-time-requires
 at-time-requires c κs = search needs
 
 cast-t31 : tie.Need-cast-t31
-cast-t31 c =
-    let offered = c .before .before .before .before .before .before .before .before .before .before .before .before .before .before .before .before .before .before .before .before .before .args .offered .now in
-    omega (arith, c .before .before .before .before .before .before .before .before .before .before .sent-with .ensures, sent-most (c .before .before .before .before .before .before .before .before .before .before .before .before .before .before .before .before .before .before .before .before .before .args .m .family) (c .before .before .before .before .before .before .before .before .before .before .before .before .is-banned .result) (c .before .before .before .before .before .before .before .before .before .before .before .entry-for .result) (length offered) .1)
+cast-t31 c = omega (arith, c .before .before .before .before .before .before .before .before .before .before .sent-with .ensures .1 .1)
 
 returns : tie.Need-returns
 returns c =
@@ -84,7 +80,7 @@ returns-2 c =
     let clear = sym (c .before .before .before .before .before .before .before .before .before .before .before .before .before .before .before .before .check-open .ensures) ∙ c .before .before .before .before .before .before .before .before .before .before .before .before .before .before .enum-told .given .1 in
     let b = open-kept (a .m) (a .time) (a .own .now) (a .server .now) (a .o) (a .offered .now) (a .out .now) clear (c .before .before .before .before .before .before .before .before .before .before .before .before .before .block-of .ensures) in
     open-done (a .m) (a .time) (a .own .now) (a .server .now) (a .o) (a .offered .now) (a .out .now) clear _ _ _ _ _ _ _ _
-    b (c .before .before .before .before .before .before .before .before .before .before .before .before .is-banned .ensures) (c .before .before .before .before .before .before .before .before .before .before .before .entry-for .ensures) (c .before .before .before .before .before .before .before .before .before .before .sent-with .ensures) (c .before .before .before .before .before .before .before .before .cookie-length .ensures) (c .before .before .before .write-opening .ensures .0) (c .before .before .before .write-opening .ensures .1) (c .at-time .ensures)
+    b (c .before .before .before .before .before .before .before .before .before .before .before .before .is-banned .ensures) (c .before .before .before .before .before .before .before .before .before .before .before .entry-for .ensures) (c .before .before .before .before .before .before .before .before .before .before .sent-with .ensures .0) (c .before .before .before .before .before .before .before .before .cookie-length .ensures) (c .before .before .before .write-opening .ensures .0) (c .before .before .before .write-opening .ensures .1) (c .at-time .ensures)
 
 pub connect-spec : {M : Type 1} → statement M
 connect-spec =

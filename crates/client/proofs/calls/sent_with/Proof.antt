@@ -4,18 +4,23 @@ use mathlib.Core.Path.{sym}
 use native.Mathlib.Nat.{min-eq-left, min-eq-right}
 use native.Mathlib.Omega.{arith}
 use borrow.Author.Tests.{eq-eqb, ne-eqb}
+use Rattle.client.proofs.Parts.{with-most}
 use borrow.Author.Needs.{needs}
 use Rattle.client.proofs.calls.sent_with.Statement.{statement}
 use Rattle.client.proofs.calls.sent_with.Tie as tie
 
 returns : tie.Need-returns
-returns c = rw (c .if1 .taken)
+returns c =
+    let a = c .before .args in
+    with-most (a .family) (a .banned) (a .e) (a .offered) (rw (c .if1 .taken))
 
 cookie-length-requires : tie.Need-cookie-length-requires
 cookie-length-requires c κs = search needs
 
 returns-2 : tie.Need-returns-2
-returns-2 c = simp (c .before .before .if1 .left, sym (c .before .cookie-length .ensures), eq-eqb _ _ (c .if2 .taken))
+returns-2 c =
+    let a = c .before .before .before .args in
+    with-most (a .family) (a .banned) (a .e) (a .offered) (simp (c .before .before .if1 .left, sym (c .before .cookie-length .ensures), eq-eqb _ _ (c .if2 .taken)))
 
 data-room-requires : tie.Need-data-room-requires
 data-room-requires c κs = search needs
@@ -24,10 +29,14 @@ cast-room : tie.Need-cast-room
 cast-room c = search needs
 
 returns-3 : tie.Need-returns-3
-returns-3 c = simp (c .before .before .before .before .if1 .left, sym (c .before .before .before .cookie-length .ensures), ne-eqb _ _ (c .before .before .if2 .left), sym (c .before .data-room .ensures)) (sym (min-eq-left (omega arith)))
+returns-3 c =
+    let a = c .before .before .before .before .before .args in
+    with-most (a .family) (a .banned) (a .e) (a .offered) (simp (c .before .before .before .before .if1 .left, sym (c .before .before .before .cookie-length .ensures), ne-eqb _ _ (c .before .before .if2 .left), sym (c .before .data-room .ensures)) (sym (min-eq-left (omega arith))))
 
 returns-4 : tie.Need-returns-4
-returns-4 c = simp (c .before .before .before .before .if1 .left, sym (c .before .before .before .cookie-length .ensures), ne-eqb _ _ (c .before .before .if2 .left), sym (c .before .data-room .ensures)) (sym (min-eq-right (omega arith)))
+returns-4 c =
+    let a = c .before .before .before .before .before .args in
+    with-most (a .family) (a .banned) (a .e) (a .offered) (simp (c .before .before .before .before .if1 .left, sym (c .before .before .before .cookie-length .ensures), ne-eqb _ _ (c .before .before .if2 .left), sym (c .before .data-room .ensures)) (sym (min-eq-right (omega arith))))
 
 pub sent-with-spec : {M : Type 1} → statement M
 sent-with-spec =
