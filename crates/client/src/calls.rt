@@ -186,7 +186,7 @@ fn learn(m: Memory, b: [u8; 16], cookie: &[u8], mss: Mss) -> Memory
 }
 
 // Bans the server if data was sent and none acknowledged.
-fn judge(m: Memory, time: u64, b: [u8; 16], a: Attempt, acknowledged: u32) -> Memory
+fn ban_if_negative(m: Memory, time: u64, b: [u8; 16], a: Attempt, acknowledged: u32) -> Memory
     requires { ⌜ time ≤ 2 ^ 48 ⌝ }
     ensures { λ r. ⌜ r ≡ withBans m (bansAfter time b (a .dest) (isNegative (a .sent) acknowledged) (m .bans)) ⌝ }
 {
@@ -214,7 +214,7 @@ pub fn answer(m: Memory, time: u64, own: &[u8], server: &[u8], a: Attempt, seg: 
             let mss = options.mss;
             let known = learn(next, b, cookie(option_area(seg), fast), mss);
             Outcome {
-                memory: judge(known, time, b, a, n),
+                memory: ban_if_negative(known, time, b, a, n),
                 event: Event::Answered(n),
                 written: 0,
             }

@@ -37,8 +37,8 @@ cookie-requires c κs = search needs
 learn-requires : tie.Need-learn-requires
 learn-requires c κs = rw (c .cookie .ensures, c .before .option-area .ensures, c .before .before .segment-options .ensures) (brought-most (c .before .before .before .before .before .before .before .before .before .before .before .before .args .seg .now))
 
-judge-requires : tie.Need-judge-requires
-judge-requires c κs =
+ban-if-negative-requires : tie.Need-ban-if-negative-requires
+ban-if-negative-requires c κs =
     let a = c .before .before .before .before .before .before .before .before .before .before .before .before .before .args in
     answer-time (a .m) (a .time) (a .own .now) (a .server .now) (a .a) (a .seg .now) (sym (c .before .before .before .before .before .before .before .before .check-answer .ensures) ∙ c .before .before .before .before .before .before .n .given .1)
 
@@ -53,7 +53,7 @@ returns-2 c =
     let said = sym (c .before .before .before .before .before .before .before .before .before .check-answer .ensures) ∙ c .before .before .before .before .before .before .before .n .given .1 in
     let b = answer-kept (a .m) (a .time) (a .own .now) (a .server .now) (a .a) (a .seg .now) said (c .before .before .before .before .before .block-of .ensures) in
     answer-done (a .m) (a .time) (a .own .now) (a .server .now) (a .a) (a .seg .now) said _
-    (rw (c .before .learn .ensures, c .before .before .before .before .before .before .before .before .before .before .at-time .ensures, b, c .before .before .cookie .ensures, c .before .before .before .option-area .ensures, c .before .before .before .before .segment-options .ensures) at (c .judge .ensures))
+    (rw (c .before .learn .ensures, c .before .before .before .before .before .before .before .before .before .before .at-time .ensures, b, c .before .before .cookie .ensures, c .before .before .before .option-area .ensures, c .before .before .before .before .segment-options .ensures) at (c .ban-if-negative .ensures))
 
 pub answer-spec : {M : Type 1} → statement M
 answer-spec =
@@ -69,6 +69,6 @@ answer-spec =
     option-area-requires
     cookie-requires
     learn-requires
-    judge-requires
+    ban-if-negative-requires
     returns
     returns-2)

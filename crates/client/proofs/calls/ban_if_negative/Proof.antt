@@ -1,9 +1,9 @@
--- `client::calls::judge` meets its contract: data was sent and none acknowledged, or not.
+-- `client::calls::ban_if_negative` meets its contract: data was sent and none acknowledged, or not.
 -- Assumes nothing.
 use borrow.Author.Tests.{eq-eqb, ne-eqb}
 use borrow.Author.Needs.{needs}
-use Rattle.client.proofs.calls.judge.Statement.{statement}
-use Rattle.client.proofs.calls.judge.Tie as tie
+use Rattle.client.proofs.calls.ban_if_negative.Statement.{statement}
+use Rattle.client.proofs.calls.ban_if_negative.Tie as tie
 
 returns : tie.Need-returns
 returns c = simp (eq-eqb _ _ (c .if1 .taken))
@@ -17,5 +17,5 @@ set-ban-requires c κs = search needs
 returns-3 : tie.Need-returns-3
 returns-3 c = simp (ne-eqb _ _ (c .before .before .if1 .left), eq-eqb _ _ (c .before .if2 .left)) (c .set-ban .ensures)
 
-pub judge-spec : {M : Type 1} → statement M
-judge-spec = tie.close (tie.spec returns returns-2 set-ban-requires returns-3)
+pub ban-if-negative-spec : {M : Type 1} → statement M
+ban-if-negative-spec = tie.close (tie.spec returns returns-2 set-ban-requires returns-3)
