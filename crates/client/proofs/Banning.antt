@@ -1,4 +1,4 @@
--- No two live bans have one name, whatever ban is set. Assumes nothing.
+-- When a ban is live; no two live bans have one name, whatever ban is set. Assumes nothing.
 use Prim.Native.Nat.{ℕ, zero, suc, _+_, _≤_, _<_}
 use mathlib.Core.Path.{_≡_, refl, sym, ap, _∙_}
 use mathlib.Core.Bool.{Bool, true, false, _&&_}
@@ -6,13 +6,26 @@ use mathlib.Core.List.{List, [], _∷_}
 use native.Mathlib.Omega.{arith}
 use lib.Dec.{ltb, eqb}
 use lib.ListN.{length, set, replicate, length-set, length-replicate}
-use borrow.Author.Tests.{ltb-true, ltb-false, lt-ltb, le-ltb, eqb-true}
+use borrow.Author.Tests.{ltb-true, ltb-false, lt-ltb, le-ltb, eqb-true, eq-eqb}
 use Rattle.segment.proofs.Bools.{and-true, chosen}
 use Rattle.endpoint.specs.Lists.{sameBytes, bit, sum, tally}
-use Rattle.endpoint.proofs.Names.{same-bytes-eq}
+use Rattle.endpoint.proofs.Names.{same-bytes-eq, same-bytes-refl}
 use Rattle.endpoint.proofs.Sums.{sum-le, sum-zero, sum-set, sum-only, first-passes, none-passes}
-use Rattle.client.specs.Bans.{noBan, isBan, banPlace, isBanned, placeFor, newBan, banned}
+use Rattle.client.specs.Bans.{noBan, isBan, banPlace, isBanned, placeFor, newBan, addBan}
 use Rattle.client.specs.declared.bans.Ban.{Ban}
+
+-- A live ban of a name has that name, and ends later
+
+pub ban-is : (t : ℕ) (b : List ℕ) (port : ℕ) (x : Ban) → isBan t b port x ≡ true → (t < x .end) × (x .port ≡ port) × (x .addr ≡ b)
+unfolding isBan
+ban-is t b port x e =
+    let live = and-true (ltb t (x .end)) _ e in
+    let name = and-true (eqb (x .port) port) (sameBytes (x .addr) b) (live .1) in
+    (ltb-true t (x .end) (live .0), eqb-true (x .port) port (name .0), same-bytes-eq (x .addr) b (name .1))
+
+pub is-ban : (t : ℕ) (b : List ℕ) (port : ℕ) (x : Ban) → t < x .end → x .port ≡ port → x .addr ≡ b → isBan t b port x ≡ true
+unfolding isBan
+is-ban t b port x l p a = rw (lt-ltb t (x .end) l, eq-eqb (x .port) port p, a) (same-bytes-refl b)
 
 -- a test counts once at most
 bit-most : (b : Bool) → bit b ≤ 1
@@ -83,8 +96,8 @@ module _ (clock t₀ : ℕ) (bans : List Ban) (after : clock ≤ t₀) (a : Alon
     own : tally then (set bans (placeFor t₀ b₀ port₀ bans) new) ≤ 1
     own = chosen (λ i. tally then (set bans i new) ≤ 1) (isBanned t₀ b₀ port₀ bans) _ _ moved (added _)
 
-  pub banned-alone : Alone t₀ (banned t₀ b₀ port₀ bans)
-  unfolding banned isBan
+  pub banned-alone : Alone t₀ (addBan t₀ b₀ port₀ bans)
+  unfolding addBan isBan
   banned-alone = record { places = length-set bans _ _ ∙ a .places; single = λ t h b port. go t h b port (isBan t b port new) refl }
     where
       go : (t : ℕ) → t₀ ≤ t → (b : List ℕ) (port : ℕ) (same : Bool) → isBan t b port new ≡ same

@@ -8,7 +8,6 @@ use lib.ListN.{length, take}
 use borrow.Author.Tests.{not-false}
 use Rattle.segment.specs.Refusal.{Checks, refusal}
 use Rattle.segment.specs.Header.{fieldsOf}
-use Rattle.segment.specs.Options.{optionsOf}
 use Rattle.segment.specs.Write.{overwrite, openingBytes}
 use Rattle.segment.specs.declared.refusal.Refusal.{Refusal}
 use Rattle.segment.specs.declared.refusal.Check.{Check}
@@ -19,10 +18,10 @@ use Rattle.endpoint.proofs.Blocks.{family-short, kept}
 use Rattle.endpoint.proofs.Chain.{time-most, named-short}
 use Rattle.endpoint.proofs.Clear.{every-check}
 use Rattle.client.specs.Cache.{cookieLength, entryFor}
-use Rattle.client.specs.Bans.{isBanned, banned}
+use Rattle.client.specs.Bans.{isBanned, addBan}
 use Rattle.client.specs.Call.{Call, connect, answer, failed}
 use Rattle.client.specs.Refusals.{countIn, openChecks, answerChecks, judged, judgedReply}
-use Rattle.client.specs.Step.{openingFor, sentWith, cookieIn, cacheAfter, isNegative, bansAfter, moved, after, doneEvent, doneOutput, outcomeOf, step, outputIf, outputOf}
+use Rattle.client.specs.Step.{openingFor, sentWith, cookieIn, mssIn, cacheAfter, isLost, bansAfter, moved, after, doneEvent, doneOutput, outcomeOf, step, outputIf, outputOf}
 use Rattle.client.specs.declared.answer.ActiveOpen.{ActiveOpen}
 use Rattle.client.specs.declared.answer.Attempt.{Attempt}
 use Rattle.client.specs.declared.answer.Event.the-variants as events
@@ -139,7 +138,7 @@ module _ (m : Memory) (t : ℕ) (own server : List ℕ) (a : Attempt) (seg : Lis
     answer-time = time-most (m .clock) t (every-check theChecks clear .1 .0)
 
     pub answer-done : (next : Memory)
-        → next ≡ moved m t (cacheAfter (block server) (cookieIn seg) (optionsOf seg .mss) (m .cache)) (bansAfter t (block server) (a .dest) (isNegative (a .sent) n) (m .bans))
+        → next ≡ moved m t (cacheAfter (block server) (cookieIn seg) (mssIn seg) (m .cache)) (bansAfter t (block server) (a .dest) (isLost (a .sent) n) (m .bans))
         → record { memory = next; event = events.Answered n; written = 0 } ≡ step m answering
     unfolding after
     answer-done next e =
@@ -169,7 +168,7 @@ module _ (m : Memory) (t : ℕ) (server : List ℕ) (port : ℕ) where
     pub failed-time : t ≤ 2 ^ 48
     failed-time = time-most (m .clock) t (every-check (timely (m .started) (isUntimely (m .clock) t) ++ addressed (m .family) server) clear .1 .0)
 
-    pub failed-done : (next : Memory) → next ≡ moved m t (m .cache) (banned t (block server) port (m .bans))
-        → record { memory = next; event = events.Noted; written = 0 } ≡ step m failing
+    pub failed-done : (next : Memory) → next ≡ moved m t (m .cache) (addBan t (block server) port (m .bans))
+        → record { memory = next; event = events.Banned; written = 0 } ≡ step m failing
     unfolding after
     failed-done next e = rw e (sym (step-done m failing (failed-judged ∙ clear)))

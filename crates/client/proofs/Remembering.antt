@@ -4,15 +4,15 @@ use mathlib.Core.Path.{_≡_, refl, ap, _∙_}
 use mathlib.Core.Bool.{Bool, true, false, cond}
 use mathlib.Core.List.{List, [], _∷_, _++_}
 use native.Mathlib.Omega.{arith}
-use lib.Dec.{ltb}
+use lib.Dec.{ltb, eqb}
 use lib.ListN.{length}
 use borrow.Author.Tests.{eqb-true, ne-eqb, ltb-false, not-false}
-use Rattle.segment.specs.Header.{fieldsOf}
-use Rattle.segment.specs.Options.{optionsOf}
 use Rattle.segment.specs.Refusal.{numberOf, refusal}
 use Rattle.segment.specs.declared.refusal.Refusal.{Refusal}
 use Rattle.segment.specs.declared.refusal.Check.{Check}
 use Rattle.segment.specs.declared.refusal.Check.the-variants.{Clear, Refused}
+use Rattle.segment.specs.declared.options.Mss.{Mss}
+use Rattle.segment.specs.declared.options.Mss.the-variants.{NotGiven, Given}
 use Rattle.segment.proofs.Bools.{or-false, chosen}
 use Rattle.endpoint.specs.Address.{size, block}
 use Rattle.endpoint.specs.Checks.{isUntimely}
@@ -21,9 +21,9 @@ use Rattle.endpoint.proofs.Clear.{Passed, every-check}
 use Rattle.endpoint.proofs.Sums.{All}
 use Rattle.client.specs.Cache.{entryFor, learnedFrom, remembered}
 use Rattle.client.specs.Call.{Call, connect, answer, failed, numberOfEvent}
-use Rattle.client.specs.Refusals.{checks, judged, countIn}
-use Rattle.client.specs.Step.{startedBy, startChecks, startOf, cookieIn, brings, cacheAfter, isNegative, after, doneEvent, outcomeOf, step}
-use Rattle.client.specs.History.{Store, storesWith, distinct, noted, recalled, run, storesOf, Remembers}
+use Rattle.client.specs.Refusals.{checks, judged}
+use Rattle.client.specs.Step.{startedBy, startChecks, startOf, cookieIn, mssIn, brings, cacheAfter, isNegative, after, doneEvent, outcomeOf, step}
+use Rattle.client.specs.History.{Store, isStore, storesWith, storesAfter, distinct, recalled, run, numbered, storesOf, started, left, stores, Remembers}
 use Rattle.client.specs.declared.cache.Entry.{Entry}
 use Rattle.client.specs.declared.state.Memory.{Memory}
 use Rattle.client.proofs.Never.{positive}
@@ -62,10 +62,18 @@ more-clock m [] more = run-clock m more
 more-clock m (c ∷ cs) more = more-clock (step m c .memory) cs more
 
 -- a call that is refused is no store
-noted-refused : (s : List Store) (c : Call) (r : Refusal) → noted s c (numberOf r) ≡ s
-noted-refused s (connect t own server o offered room) r = refl
-noted-refused s (answer t own server a seg) r = rw (ne-eqb (numberOf r) 0 (positive r))
-noted-refused s (failed t server port) r = refl
+stores-refused : (s : List Store) (c : Call) (r : Refusal) → storesAfter s c (numberOf r) ≡ s
+stores-refused s (connect t own server o offered room) r = refl
+stores-refused s (answer t own server a seg) r = rw (ne-eqb (numberOf r) 0 (positive r))
+stores-refused s (failed t server port) r = refl
+
+-- the record and the cache agree on what is a store
+same-store : (c : List ℕ) (mss : Mss) → isStore c mss ≡ brings c mss
+same-store [] NotGiven = refl
+same-store [] (Given v) = refl
+same-store (x ∷ c) mss =
+    let some : eqb (length (x ∷ c)) 0 ≡ false = ne-eqb (length (x ∷ c)) 0 (λ e. omega arith) in
+    rw some
 
 -- What holds of a memory and the record of its calls
 
@@ -79,11 +87,11 @@ record Right (f : Family) (m : Memory) (s : List Store) : Type 0 where
 
 module _ (f : Family) where
   store : (s : List Store) (es : List Entry) (server seg : List ℕ) → length server ≡ size f → Stored f s es
-      → Stored f (storesWith s server (cookieIn seg) (optionsOf seg .mss)) (cacheAfter (block server) (cookieIn seg) (optionsOf seg .mss) es)
-  store s es server seg l h = go (brings (cookieIn seg) (optionsOf seg .mss))
+      → Stored f (storesWith s server (cookieIn seg) (mssIn seg)) (cacheAfter (block server) (cookieIn seg) (mssIn seg) es)
+  store s es server seg l h = rw (same-store (cookieIn seg) (mssIn seg)) (go (brings (cookieIn seg) (mssIn seg)))
     where
       x : Store
-      x = record { address = server; cookie = cookieIn seg; mss = optionsOf seg .mss }
+      x = record { address = server; cookie = cookieIn seg; mss = mssIn seg }
 
       go : (b : Bool) → Stored f (cond b (x ∷ s) s) (cond b (remembered (learnedFrom (entryFor (block server) es) (block server) (x .cookie) (x .mss)) es) es)
       go true =
@@ -91,7 +99,7 @@ module _ (f : Family) where
           rw (recalled-more x s) (kept-more f x kept (recalled s) es (h .0) (h .1), filled-more f x kept (recalled s) es (h .0) (h .1))
       go false = h
 
-  right-done : (m : Memory) (c : Call) (s : List Store) → Passed (checks m c) → Right f m s → Right f (after m c) (noted s c (numberOfEvent (doneEvent m c)))
+  right-done : (m : Memory) (c : Call) (s : List Store) → Passed (checks m c) → Right f m s → Right f (after m c) (storesAfter s c (numberOfEvent (doneEvent m c)))
   unfolding after
   right-done m (connect t own server o offered room) s p r =
       record { family = r .family; stored = r .stored; alone = later-alone (m .clock) t (m .bans) (not-before m t (p .1 .0)) (r .alone) }
@@ -101,24 +109,24 @@ module _ (f : Family) where
       record {
         family = r .family;
         stored = store s (m .cache) server seg size-right (r .stored);
-        alone = chosen (Alone t) (isNegative (a .sent) (countIn a (fieldsOf seg))) _ _
+        alone = chosen (Alone t) (isNegative a seg) _ _
             (λ _. banned-alone (m .clock) t (m .bans) h (r .alone) (block server) (a .dest)) (λ _. later-alone (m .clock) t (m .bans) h (r .alone));
       }
   right-done m (failed t server port) s p r =
       record { family = r .family; stored = r .stored; alone = banned-alone (m .clock) t (m .bans) (not-before m t (p .1 .0)) (r .alone) (block server) port }
 
-  right-step : (m : Memory) (c : Call) (s : List Store) → Right f m s → Right f (step m c .memory) (noted s c (numberOfEvent (step m c .event)))
+  right-step : (m : Memory) (c : Call) (s : List Store) → Right f m s → Right f (step m c .memory) (storesAfter s c (numberOfEvent (step m c .event)))
   unfolding step judged
   right-step m c s r = go (judged m c) refl
     where
-      go : (k : Check) → refusal (checks m c) ≡ k → Right f (outcomeOf m c k .memory) (noted s c (numberOfEvent (outcomeOf m c k .event)))
+      go : (k : Check) → refusal (checks m c) ≡ k → Right f (outcomeOf m c k .memory) (storesAfter s c (numberOfEvent (outcomeOf m c k .event)))
       go Clear e = right-done m c s (every-check (checks m c) e) r
-      go (Refused q) e = rw (noted-refused s c q) r
+      go (Refused q) e = rw (stores-refused s c q) r
 
-  right-run : (m : Memory) (s : List Store) (calls : List Call) → Right f m s → Right f (run m calls) (storesOf m s calls)
-  unfolding run storesOf
+  right-run : (m : Memory) (s : List Store) (calls : List Call) → Right f m s → Right f (run m calls) (storesOf s (numbered m calls))
+  unfolding run numbered storesOf
   right-run m s [] r = r
-  right-run m s (c ∷ cs) r = right-run (step m c .memory) (noted s c (numberOfEvent (step m c .event))) cs (right-step m c s r)
+  right-run m s (c ∷ cs) r = right-run (step m c .memory) (storesAfter s c (numberOfEvent (step m c .event))) cs (right-step m c s r)
 
 right-start : (n : ℕ) → Right (startOf n .memory .family) (startOf n .memory) []
 unfolding startOf distinct
@@ -128,28 +136,26 @@ right-start n = go (refusal (startChecks n))
     go Clear = record { family = refl; stored = (tt, blank-filled 32); alone = blank-alone }
     go (Refused r) = record { family = refl; stored = (tt, blank-filled 32); alone = blank-alone }
 
-right-calls : (n : ℕ) (calls : List Call) → Right (startOf n .memory .family) (run (startOf n .memory) calls) (storesOf (startOf n .memory) [] calls)
-right-calls n calls = right-run (startOf n .memory .family) (startOf n .memory) [] calls (right-start n)
-
 -- The theorem
 
-pub remembers : (n : ℕ) → startOf n .check ≡ Clear → (calls : List Call) → Remembers (startOf n .memory) calls
+pub remembers : (n : ℕ) → startOf n .check ≡ Clear → (calls : List Call) → Remembers n calls
 remembers n done calls =
-    let m = startOf n .memory in
-    let s = storesOf m [] calls in
-    let r = right-calls n calls in
+    let f = started n calls .family in
+    let es = left n calls .cache in
+    let s = stores n calls in
+    let r = right-run f (started n calls) [] calls (right-start n) in
     let kept = r .stored .0 in
     let filled = r .stored .1 in
-    let same = filled-stored (m .family) (recalled s) (run m calls .cache) kept filled in
+    let same = filled-stored f (recalled s) es kept filled in
     record {
       stored = same;
       found = λ server e.
-          let l = eqb-true (length server) (size (m .family)) e in
+          let l = eqb-true (length server) (size f) e in
           let last = found-recalled server s in
-          let cookie = cookie-found (m .family) server l (recalled s) (run m calls .cache) kept filled in
-          let entry = entry-found (m .family) server l (recalled s) (run m calls .cache) kept filled in
+          let cookie = cookie-found f server l (recalled s) es kept filled in
+          let entry = entry-found f server l (recalled s) es kept filled in
           (cookie ∙ ap (λ (x : Store). x .cookie) last, entry .2 ∙ ap (λ (x : Store). x .mss) last);
       once = rw same (recent-once s);
       alone = r .alone .single;
-      clock = more-clock m calls;
+      clock = more-clock (started n calls) calls;
     }

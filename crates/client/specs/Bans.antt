@@ -49,8 +49,8 @@ placeFor t b port bans =
 abbrev pub newBan : ℕ → List ℕ → ℕ → Ban
 newBan t b port = record { addr = b; port = port; end = t + 600000 }
 
-unfoldable pub banned : ℕ → List ℕ → ℕ → List Ban → List Ban
-banned t b port bans = set bans (placeFor t b port bans) (newBan t b port)
+unfoldable pub addBan : ℕ → List ℕ → ℕ → List Ban → List Ban
+addBan t b port bans = set bans (placeFor t b port bans) (newBan t b port)
 
 abbrev pub withBans : Memory → List Ban → Memory
 withBans m bans = record { cache = m .cache; bans = bans; started = m .started; family = m .family; clock = m .clock }

@@ -30,7 +30,7 @@ placeOf b es = firstIndex (isFor b) es
 abbrev pub entryFor : List ℕ → List Entry → Entry
 entryFor b es = getD es (placeOf b es) unusedEntry
 
--- the stored cookie; none where the stored length is no cookie's
+-- The stored cookie; none where the stored length is no cookie's. (The calls store no such length, but a memory's fields are public.)
 abbrev pub cookieLength : Entry → ℕ
 cookieLength e = cond (isCookieLength (e .len)) (e .len) 0
 
@@ -53,12 +53,12 @@ abbrev pub mssOr : ℕ → Mss → ℕ
 mssOr default NotGiven = default
 mssOr default (Given v) = v
 
-abbrev pub dataRoom : Family → Mss → ℕ
-dataRoom f mss = min (mssOr (defaultMss f) mss) (mostData f)
+abbrev pub dataRoom : Family → Entry → ℕ
+dataRoom f e = min (mssOr (defaultMss f) (e .mss)) (mostData f)
 
 -- What is stored next
 
--- a cookie that is not empty and an MSS that is given replace what was stored for the address
+-- a cookie that is not empty and an MSS that is given replace what was stored for the address (the first of the two that is given, the new one before the old)
 abbrev pub learnedFrom : Entry → List ℕ → List ℕ → Mss → Entry
 learnedFrom old b cookie mss =
     record {

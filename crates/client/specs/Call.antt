@@ -1,4 +1,4 @@
--- Document 01, "Client": the calls that carry a time, and what an answer says.
+-- Document 01, "Client": the calls that carry a time, and what a call answers.
 -- Assumes nothing.
 use Prim.Native.Nat.{ℕ}
 use mathlib.Core.List.{List}
@@ -6,7 +6,7 @@ use Rattle.segment.specs.Refusal.{numberOf}
 use Rattle.client.specs.declared.answer.ActiveOpen.{ActiveOpen}
 use Rattle.client.specs.declared.answer.Attempt.{Attempt}
 use Rattle.client.specs.declared.answer.Event.{Event}
-use Rattle.client.specs.declared.answer.Event.the-variants.{Refused, Opened, Answered, Noted}
+use Rattle.client.specs.declared.answer.Event.the-variants.{Refused, Opened, Answered, Banned}
 
 -- A call with its arguments, the time first. 01's open has own address, the server's address, ports and numbers, the data offered and the output's length; an answer has
 -- both addresses, the attempt and the segment; a failure has the server's address and port.
@@ -15,22 +15,16 @@ pub data Call : Type 0 where
   answer : ℕ → List ℕ → List ℕ → Attempt → List ℕ → Call
   failed : ℕ → List ℕ → ℕ → Call
 
--- the time that a call carries
-abbrev pub timeOf : Call → ℕ
-timeOf (connect t own server o offered room) = t
-timeOf (answer t own server a seg) = t
-timeOf (failed t server port) = t
-
--- the number of an answer; 0 is done
+-- the number; 0 is done
 abbrev pub numberOfEvent : Event → ℕ
 numberOfEvent (Refused r) = numberOf r
 numberOfEvent (Opened n) = 0
 numberOfEvent (Answered n) = 0
-numberOfEvent Noted = 0
+numberOfEvent Banned = 0
 
 -- the bytes of data sent, or acknowledged
 abbrev pub countOf : Event → ℕ
 countOf (Refused r) = 0
 countOf (Opened n) = n
 countOf (Answered n) = n
-countOf Noted = 0
+countOf Banned = 0

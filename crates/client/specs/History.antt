@@ -6,16 +6,15 @@ use mathlib.Core.List.{List, [], _∷_, _++_, map}
 use mathlib.Core.Bool.{Bool, true, false, cond, not, _&&_, _||_}
 use lib.Dec.{eqb}
 use lib.ListN.{length, take}
-use Rattle.segment.specs.Options.{optionsOf}
 use Rattle.segment.specs.declared.options.Mss.{Mss}
-use Rattle.segment.specs.declared.options.Mss.the-variants.{NotGiven}
+use Rattle.segment.specs.declared.options.Mss.the-variants.{NotGiven, Given}
 use Rattle.endpoint.specs.Lists.{sameBytes, tally}
 use Rattle.endpoint.specs.Address.{size, isAddress}
 use Rattle.endpoint.specs.declared.address.Family.{Family}
 use Rattle.client.specs.Cache.{cookieOf}
 use Rattle.client.specs.Bans.{isBan}
 use Rattle.client.specs.Call.{Call, connect, answer, failed, numberOfEvent}
-use Rattle.client.specs.Step.{cookieIn, isGiven, brings, storedFor, step}
+use Rattle.client.specs.Step.{startOf, cookieIn, mssIn, isGiven, storedFor, step}
 use Rattle.client.specs.declared.cache.Entry.{Entry}
 use Rattle.client.specs.declared.state.Memory.{Memory}
 
@@ -27,14 +26,20 @@ pub record Store : Type 0 where
   pub cookie : List ℕ
   pub mss : Mss
 
+-- an answer brings something to store
+abbrev pub isStore : List ℕ → Mss → Bool
+isStore [] NotGiven = false
+isStore [] (Given v) = true
+isStore (x ∷ c) mss = true
+
 -- The stores, the newest first. An answer that was not refused is one if it brings a cookie or an MSS.
 abbrev pub storesWith : List Store → List ℕ → List ℕ → Mss → List Store
-storesWith s server cookie mss = cond (brings cookie mss) (record { address = server; cookie = cookie; mss = mss } ∷ s) s
+storesWith s server cookie mss = cond (isStore cookie mss) (record { address = server; cookie = cookie; mss = mss } ∷ s) s
 
-abbrev pub noted : List Store → Call → ℕ → List Store
-noted s (connect t own server o offered room) number = s
-noted s (answer t own server a seg) number = cond (eqb number 0) (storesWith s server (cookieIn seg) (optionsOf seg .mss)) s
-noted s (failed t server port) number = s
+abbrev pub storesAfter : List Store → Call → ℕ → List Store
+storesAfter s (connect t own server o offered room) number = s
+storesAfter s (answer t own server a seg) number = cond (eqb number 0) (storesWith s server (cookieIn seg) (mssIn seg)) s
+storesAfter s (failed t server port) number = s
 
 -- What it says is stored
 
@@ -92,26 +97,45 @@ unfoldable pub run : Memory → List Call → Memory
 run m [] = m
 run m (c ∷ cs) = run (step m c .memory) cs
 
--- the record of them
-unfoldable pub storesOf : Memory → List Store → List Call → List Store
-storesOf m s [] = s
-storesOf m s (c ∷ cs) = storesOf (step m c .memory) (noted s c (numberOfEvent (step m c .event))) cs
+-- the calls with the numbers that they were answered: all that the record is fed
+pub record Fed : Type 0 where
+  pub call : Call
+  pub number : ℕ
+
+unfoldable pub numbered : Memory → List Call → List Fed
+numbered m [] = []
+numbered m (c ∷ cs) = record { call = c; number = numberOfEvent (step m c .event) } ∷ numbered (step m c .memory) cs
+
+-- the stores among them
+unfoldable pub storesOf : List Store → List Fed → List Store
+storesOf s [] = s
+storesOf s (f ∷ fs) = storesOf (storesAfter s (f .call) (f .number)) fs
 
 -- every element is unlike those after it
 unfoldable pub Once : List (List ℕ) → Type 0
 Once [] = Unit {0}
 Once (a ∷ more) = (member a more ≡ false) × Once more
 
--- after a done start and the calls
-pub record Remembers (m : Memory) (calls : List Call) : Type 0 where
-  -- the stored addresses are the 32 most recent, in their order, each with its last cookie and its last MSS
-  pub stored : storedIn (m .family) (run m calls .cache) ≡ recalled (storesOf m [] calls)
-  -- so an opening finds the last cookie of its server, and the last MSS
-  pub found : (server : List ℕ) → isAddress (m .family) server ≡ true
-      → (cookieOf (storedFor (run m calls) server) ≡ lastCookie server (storesOf m [] calls)) × (storedFor (run m calls) server .mss ≡ lastMss server (storesOf m [] calls))
-  -- no address stands twice
-  pub once : Once (map (λ x. x .address) (storedIn (m .family) (run m calls .cache)))
-  -- no two live bans have one name, at the clock or later
-  pub alone : (t : ℕ) → run m calls .clock ≤ t → (b : List ℕ) (port : ℕ) → tally (isBan t b port) (run m calls .bans) ≤ 1
-  -- the clock never falls, whatever calls come after
-  pub clock : (more : List Call) → run m calls .clock ≤ run m (calls ++ more) .clock
+module _ (n : ℕ) (calls : List Call) where
+  -- after a start for addresses of n bytes
+  abbrev pub started : Memory
+  started = startOf n .memory
+
+  abbrev pub left : Memory
+  left = run started calls
+
+  abbrev pub stores : List Store
+  stores = storesOf [] (numbered started calls)
+
+  pub record Remembers : Type 0 where
+    -- the stored addresses are the 32 most recent, in their order, each with its last cookie and its last MSS
+    pub stored : storedIn (started .family) (left .cache) ≡ recalled stores
+    -- so an opening finds the last cookie of its server, and the last MSS
+    pub found : (server : List ℕ) → isAddress (started .family) server ≡ true
+        → (cookieOf (storedFor left server) ≡ lastCookie server stores) × (storedFor left server .mss ≡ lastMss server stores)
+    -- no address stands twice
+    pub once : Once (map (λ x. x .address) (storedIn (started .family) (left .cache)))
+    -- no two live bans have one name, at the clock or later
+    pub alone : (t : ℕ) → left .clock ≤ t → (b : List ℕ) (port : ℕ) → tally (isBan t b port) (left .bans) ≤ 1
+    -- the clock never falls, whatever calls come after
+    pub clock : (more : List Call) → left .clock ≤ run started (calls ++ more) .clock

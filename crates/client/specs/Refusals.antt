@@ -36,7 +36,7 @@ countIn a h = acknowledged (a .iss) (h .ack)
 abbrev pub pairChecks : Bool → Family → Bool → List ℕ → List ℕ → Checks
 pairChecks started f untimely own server = timely started untimely ++ addressed f own ++ addressed f server
 
--- the longest opening has 1,504 bytes
+-- 11: an output of under 1,504 bytes
 abbrev pub openChecks : Bool → Family → Bool → List ℕ → List ℕ → ℕ → ℕ → Checks
 openChecks started f untimely own server mss room =
     pairChecks started f untimely own server ++ ((Output, ltb room 1504) ∷ (Range, not (isMss mss)) ∷ [])

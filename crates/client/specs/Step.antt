@@ -14,15 +14,17 @@ use Rattle.segment.specs.declared.refusal.Check.{Check}
 use Rattle.segment.specs.declared.refusal.Check.the-variants.{Clear, Refused}
 use Rattle.segment.specs.declared.options.Mss.{Mss}
 use Rattle.segment.specs.declared.options.Mss.the-variants.{NotGiven, Given}
+use Rattle.segment.specs.declared.options.Options.{Options}
 use Rattle.segment.specs.declared.write.Opening.{Opening}
 use Rattle.endpoint.specs.Address.{isSize, familyOf, block}
 use Rattle.endpoint.specs.declared.address.Family.{Family}
 use Rattle.endpoint.specs.declared.address.Family.the-variants.{V4}
 use Rattle.client.specs.Cache.{unusedEntry, entryFor, cookieLength, cookieOf, dataRoom, learnedFrom, remembered}
-use Rattle.client.specs.Bans.{noBan, isBanned, banned}
+use Rattle.client.specs.Bans.{noBan, isBanned, addBan}
 use Rattle.client.specs.Call.{Call, connect, answer, failed}
 use Rattle.client.specs.Refusals.{countIn, judged}
 use Rattle.client.specs.declared.answer.ActiveOpen.{ActiveOpen}
+use Rattle.client.specs.declared.answer.Attempt.{Attempt}
 use Rattle.client.specs.declared.answer.Event.{Event}
 use Rattle.client.specs.declared.answer.Event.the-variants as events
 use Rattle.client.specs.declared.answer.Outcome.{Outcome}
@@ -56,7 +58,7 @@ startOf n = startedBy n (refusal (startChecks n))
 
 -- how many of the bytes offered are sent: none where the server is banned or no cookie is stored
 abbrev pub sentWith : Family → Bool → Entry → ℕ → ℕ
-sentWith f banned e offered = cond (banned || eqb (cookieLength e) 0) 0 (min offered (dataRoom f (e .mss)))
+sentWith f banned e offered = cond (banned || eqb (cookieLength e) 0) 0 (min offered (dataRoom f e))
 
 -- a banned server gets no Fast Open option; without a cookie the option is a request
 abbrev pub openingFor : Bool → ActiveOpen → Opening
@@ -68,9 +70,15 @@ openingWith f banned e own server o offered room =
 
 -- An answer
 
--- the cookie that counts
+-- the options that count, and what they bring: a cookie, empty for none, and an MSS
+abbrev pub optionsIn : List ℕ → Options
+optionsIn seg = optionsOf seg
+
 abbrev pub cookieIn : List ℕ → List ℕ
-cookieIn seg = cookieBytes (optionsOf seg .fast) (optionArea seg)
+cookieIn seg = cookieBytes (optionsIn seg .fast) (optionArea seg)
+
+abbrev pub mssIn : List ℕ → Mss
+mssIn seg = optionsIn seg .mss
 
 abbrev pub isGiven : Mss → Bool
 isGiven NotGiven = false
@@ -84,12 +92,16 @@ brings cookie mss = not (eqb (length cookie) 0) || isGiven mss
 abbrev pub cacheAfter : List ℕ → List ℕ → Mss → List Entry → List Entry
 cacheAfter b cookie mss es = cond (brings cookie mss) (remembered (learnedFrom (entryFor b es) b cookie mss) es) es
 
--- a ban is set if data was sent and none acknowledged
-abbrev pub isNegative : ℕ → ℕ → Bool
-isNegative sent count = not (eqb sent 0) && eqb count 0
+-- data was sent and none acknowledged
+abbrev pub isLost : ℕ → ℕ → Bool
+isLost sent count = not (eqb sent 0) && eqb count 0
+
+-- an answer sets a ban if it is a negative response
+abbrev pub isNegative : Attempt → List ℕ → Bool
+isNegative a seg = isLost (a .sent) (countIn a (fieldsOf seg))
 
 abbrev pub bansAfter : ℕ → List ℕ → ℕ → Bool → List Ban → List Ban
-bansAfter t b port negative bans = cond negative (banned t b port bans) bans
+bansAfter t b port negative bans = cond negative (addBan t b port bans) bans
 
 -- A done call
 
@@ -100,9 +112,9 @@ moved m t es bans = record { cache = es; bans = bans; started = m .started; fami
 unfoldable pub after : Memory → Call → Memory
 after m (connect t own server o offered room) = moved m t (m .cache) (m .bans)
 after m (answer t own server a seg) =
-    moved m t (cacheAfter (block server) (cookieIn seg) (optionsOf seg .mss) (m .cache))
-    (bansAfter t (block server) (a .dest) (isNegative (a .sent) (countIn a (fieldsOf seg))) (m .bans))
-after m (failed t server port) = moved m t (m .cache) (banned t (block server) port (m .bans))
+    moved m t (cacheAfter (block server) (cookieIn seg) (mssIn seg) (m .cache))
+    (bansAfter t (block server) (a .dest) (isNegative a seg) (m .bans))
+after m (failed t server port) = moved m t (m .cache) (addBan t (block server) port (m .bans))
 
 -- whether the server of an opening is banned at its time, and what is stored for it
 abbrev pub bannedFor : Memory → ℕ → List ℕ → ActiveOpen → Bool
@@ -114,7 +126,7 @@ storedFor m server = entryFor (block server) (m .cache)
 abbrev pub doneEvent : Memory → Call → Event
 doneEvent m (connect t own server o offered room) = events.Opened (sentWith (m .family) (bannedFor m t server o) (storedFor m server) (length offered))
 doneEvent m (answer t own server a seg) = events.Answered (countIn a (fieldsOf seg))
-doneEvent m (failed t server port) = events.Noted
+doneEvent m (failed t server port) = events.Banned
 
 abbrev pub doneOutput : Memory → Call → List ℕ
 doneOutput m (connect t own server o offered room) = openingWith (m .family) (bannedFor m t server o) (storedFor m server) own server o offered room

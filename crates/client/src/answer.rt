@@ -22,12 +22,12 @@ pub struct Attempt {
     pub sent: u32,
 }
 
-// What a call came to: an opening was written with so many bytes of data; an answer acknowledges so many of them; a failure was noted.
+// What a call came to: an opening was written with so many bytes of data; an answer acknowledges so many of them; a failure was reported, and the server is banned.
 pub enum Event {
     Refused(Refusal),
     Opened(u32),
     Answered(u32),
-    Noted,
+    Banned,
 }
 
 // A call's answer: the memory next, what happened, and how many bytes were written to the output.
@@ -51,7 +51,7 @@ pub fn event_number(e: Event) -> u8
         Event::Refused(why) => number(why),
         Event::Opened(_) => 0,
         Event::Answered(_) => 0,
-        Event::Noted => 0,
+        Event::Banned => 0,
     }
 }
 
@@ -63,6 +63,6 @@ pub fn event_count(e: Event) -> u32
         Event::Refused(_) => 0,
         Event::Opened(n) => n,
         Event::Answered(n) => n,
-        Event::Noted => 0,
+        Event::Banned => 0,
     }
 }

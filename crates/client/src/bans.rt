@@ -3,7 +3,7 @@ use crate::state::Memory;
 use endpoint::address::same_name;
 ghost use mathlib.Core.Path.{_≡_};
 ghost use Prim.Native.Nat.{_≤_, _^_};
-ghost use Rattle.client.specs.Bans.{noBan, isBan, banPlace, isBanned, freePlace, endsFirst, placeFor, banned, withBans};
+ghost use Rattle.client.specs.Bans.{noBan, isBan, banPlace, isBanned, freePlace, endsFirst, placeFor, addBan, withBans};
 
 // A server's name, the address by its block, and the time at which the ban ends.
 pub struct Ban {
@@ -100,7 +100,7 @@ fn place_for(m: Memory, time: u64, b: [u8; 16], port: u16) -> usize
 // Bans a server from a time on.
 pub(crate) fn set_ban(mut m: Memory, time: u64, b: [u8; 16], port: u16) -> Memory
     requires { ⌜ time ≤ 2 ^ 48 ⌝ }
-    ensures { λ r. ⌜ r ≡ withBans m (banned time b port (m .bans)) ⌝ }
+    ensures { λ r. ⌜ r ≡ withBans m (addBan time b port (m .bans)) ⌝ }
 {
     let i = place_for(m, time, b, port);
     if i < 32 {

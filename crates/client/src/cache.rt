@@ -103,10 +103,11 @@ fn mss_or(default: u32, mss: Mss) -> u32
     }
 }
 
-// How many bytes of data may go with a cookie, by what is stored of the server's segment size.
-pub(crate) fn data_room(f: Family, mss: Mss) -> u32
-    ensures { λ r. ⌜ r ≡ dataRoom f mss ⌝ }
+// How many bytes of data may go with a stored cookie.
+pub(crate) fn data_room(f: Family, e: Entry) -> u32
+    ensures { λ r. ⌜ r ≡ dataRoom f e ⌝ }
 {
+    let mss = e.mss;
     let size = mss_or(default_mss(f), mss);
     let most = most_data(f);
     if size < most { size } else { most }

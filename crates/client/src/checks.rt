@@ -50,7 +50,7 @@ fn is_mss(mss: u32) -> bool
     mss <= 1460
 }
 
-// Of an opening: 13, 5, 2, 11 and 12. The longest opening has 1,504 bytes.
+// Of an opening: 13, 5, 2, 11 and 12.
 pub(crate) fn check_open(
     started: bool,
     family: Family,

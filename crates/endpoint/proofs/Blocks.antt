@@ -9,6 +9,7 @@ use borrow.Author.Tests.{eqb-true}
 use lib.Dec.{eqb}
 use lib.ListN.{length, take, drop, replicate, drop-of-length-le, length-replicate}
 use lib.Seq.{take-all, length-take-le}
+use Rattle.segment.specs.Checksum.{oneFamily}
 use Rattle.endpoint.specs.Address.{size, isSize, isAddress, block}
 use Rattle.endpoint.specs.declared.address.Family.{Family}
 use Rattle.endpoint.specs.declared.address.Family.the-variants.{V4, V6}
@@ -90,3 +91,8 @@ module _ (a : List ℕ) (n : ℕ) (cut : Cut a n) where
 
   pub cut-block : {r : List ℕ} → r ≡ take (length (take n a)) (take n a) ++ drop (length (take n a)) (replicate 16 0) → r ≡ block (take 16 a)
   cut-block e = copied-block (take n a) e ∙ ap block (cut .2)
+
+-- two addresses of a family are of one
+pub one-family : (f : Family) (a b : List ℕ) → isAddress f a ≡ true → isAddress f b ≡ true → oneFamily a b ≡ true
+one-family V4 a b h k = rw (eqb-true (length a) 4 h, eqb-true (length b) 4 k)
+one-family V6 a b h k = rw (eqb-true (length a) 16 h, eqb-true (length b) 16 k)

@@ -23,6 +23,7 @@ use Rattle.segment.proofs.Agreement.{ReadBack, foundFor}
 use Rattle.segment.proofs.Exchange.{answer-can, answer-fits, answer-read, answer-kind, acknowledged-accepted}
 use Rattle.endpoint.specs.Address.{isAddress, block}
 use Rattle.endpoint.specs.Checks.{isUntimely}
+use Rattle.endpoint.proofs.Blocks.{one-family}
 use Rattle.endpoint.proofs.Clear.{every-check}
 use Rattle.endpoint.proofs.Chain.{andThen}
 use Rattle.listener.specs.Table.{acceptedWith}
@@ -44,7 +45,7 @@ use Rattle.client.specs.declared.state.Memory.{Memory}
 use Rattle.client.proofs.Calling as calling
 use Rattle.client.proofs.Reading as reading
 use Rattle.handshake.specs.Handshake.{Asked, opening, sent, Heard, hearing, reply, accepted, attempted, returning, Ends, stored, Taken, Later, renewed, current, AnswerRead}
-use Rattle.handshake.proofs.Opening.{one-family, own-family, server-family, sent-fits, payload-length, opening-read-by-listener}
+use Rattle.handshake.proofs.Opening.{own-family, server-family, sent-fits, payload-length, opening-read-by-listener}
 
 first-clear : (x y : Check) → andThen x y ≡ Clear → x ≡ Clear
 first-clear Clear y e = refl
@@ -154,7 +155,7 @@ module _ (m : Memory) (l : Listener) (a : Asked) (e : Ends m l a) (h : Heard) (k
         let ports = reading.between (attempted m a) (fieldsOf seg′) (ap (λ (x : Header). x .source) header ∙ e .port)
         (ap (λ (x : Header). x .dest) header ∙ opening-read-by-listener m l a e .source) in
         let kind : synAck (fieldsOf seg′ .flags) ≡ true = ap (λ (x : Header). synAck (x .flags)) header ∙ answer-kind in
-        let few = le-ltb 1460 (sent m a) (sent-fits m l a e .0) in
+        let few = le-ltb 1460 (sent m a) (sent-fits m l a e .1) in
         let most = accepted-most in
         let enough = le-ltb (sent m a) (countIn (attempted m a) (fieldsOf seg′)) (omega (arith, counted)) in
         reading.passed-clear m′ (returning m l a h t) (rw (g .started, g .timely, own, server, shaped .0, read .right, ports, kind, few, enough))

@@ -1,32 +1,27 @@
 -- The client's opening, as the listener reads it. Assumes nothing.
-use Prim.Native.Nat.{ℕ, zero, suc, _≤_, min}
+use Prim.Native.Nat.{ℕ, _≤_}
 use mathlib.Core.Path.{_≡_, refl, ap, sym, _∙_, subst}
-use mathlib.Core.Bool.{Bool, true, false, cond, not, _||_}
+use mathlib.Core.Bool.{Bool, true, false, not}
 use mathlib.Core.List.{List, [], _∷_}
 use native.Mathlib.Omega.{arith}
-use lib.Dec.{eqb}
-use lib.ListN.{length, take, length-take}
+use lib.ListN.{length, take}
 use lib.Seq.{length-take-le}
-use borrow.Author.Tests.{ltb-false, le-ltb, eqb-true, eq-eqb, not-false}
-use Rattle.segment.specs.Bytes.{Bytes}
+use borrow.Author.Tests.{le-ltb, eqb-true, eq-eqb, not-false}
 use Rattle.segment.specs.Refusal.{refusal}
 use Rattle.segment.specs.Header.{fieldsOf, optionArea, payloadOf, kindOf}
-use Rattle.segment.specs.Options.{isCookieLength, optionsOf, cookieBytes}
-use Rattle.segment.specs.Checksum.{oneFamily, checksumRight}
-use Rattle.segment.specs.Write.{optionAllowed, openingFields}
+use Rattle.segment.specs.Options.{optionsOf, cookieBytes}
+use Rattle.segment.specs.Checksum.{checksumRight}
+use Rattle.segment.specs.Write.{openingFields}
 use Rattle.segment.specs.declared.refusal.Check.the-variants.{Clear}
 use Rattle.segment.specs.declared.header.Header.{Header}
-use Rattle.segment.specs.declared.options.Mss.{Mss}
 use Rattle.segment.specs.declared.options.Options.{Options}
 use Rattle.segment.specs.declared.write.Opening.{Opening}
-use Rattle.segment.proofs.Cookie.{cookie-length}
+use Rattle.segment.proofs.ByteLists.{bytes-take}
 use Rattle.segment.proofs.Formed.{well-shaped}
 use Rattle.segment.proofs.Agreement.{ReadBack, foundFor}
-use Rattle.segment.proofs.Exchange.{allowed-request, allowed-found, opening-can, opening-fits, opening-read, opening-kind}
+use Rattle.segment.proofs.Exchange.{opening-fits, opening-read, opening-kind}
 use Rattle.endpoint.specs.Address.{size, isAddress, block}
 use Rattle.endpoint.specs.Checks.{isUntimely}
-use Rattle.endpoint.specs.declared.address.Family.{Family}
-use Rattle.endpoint.specs.declared.address.Family.the-variants.{V4, V6}
 use Rattle.endpoint.proofs.Blocks.{own-part}
 use Rattle.endpoint.proofs.Clear.{Passed}
 use Rattle.listener.specs.Cookie.{cookie, found, cookieUnder, carriedBy, right}
@@ -34,50 +29,17 @@ use Rattle.listener.specs.View.{ownAddress}
 use Rattle.listener.specs.Refusals.{wireChecks}
 use Rattle.listener.specs.declared.state.Listener.{Listener}
 use Rattle.listener.proofs.Cookies.{cookie-eight, issued-right, right-now, right-before, carried-found}
-use Rattle.client.specs.Cache.{cookieLength, cookieOf, dataRoom}
+use Rattle.client.specs.Cache.{cookieLength}
 use Rattle.client.specs.Call.{countOf}
 use Rattle.client.specs.Refusals.{checks}
 use Rattle.client.specs.Step.{sentWith, openingFor, storedFor}
 use Rattle.client.specs.declared.answer.Outcome.{Outcome}
-use Rattle.client.specs.declared.cache.Entry.{Entry}
 use Rattle.client.specs.declared.state.Memory.{Memory}
 use Rattle.client.proofs.Calling.{step-done, output-done}
+use Rattle.client.proofs.Openings.{opening-ready}
+use Rattle.client.proofs.Parts.{sent-most}
 use Rattle.client.proofs.Reading.{clear-passed, mss-most}
 use Rattle.handshake.specs.Handshake.{Asked, asking, opening, sent, Heard, Ends, carriedWith, stored, isBanned, OpeningRead, Listens, Issued, now, before}
-
--- What goes into an opening
-
-bytes-take : (n : ℕ) (xs : List ℕ) → Bytes xs → Bytes (take n xs)
-bytes-take zero xs h = tt
-bytes-take (suc n) [] h = tt
-bytes-take (suc n) (x ∷ xs) h = (h .0, bytes-take n xs (h .1))
-
--- no more data than 1,460 bytes, nor than is offered
-room-most : (f : Family) (mss : Mss) → dataRoom f mss ≤ 1460
-room-most V4 mss = omega arith
-room-most V6 mss = omega arith
-
-sent-most : (f : Family) (banned : Bool) (e : Entry) (n : ℕ) → (sentWith f banned e n ≤ 1460) × (sentWith f banned e n ≤ n)
-sent-most f banned e n = go (banned || eqb (cookieLength e) 0)
-  where
-    go : (t : Bool) → (cond t 0 (min n (dataRoom f (e .mss))) ≤ 1460) × (cond t 0 (min n (dataRoom f (e .mss))) ≤ n)
-    go true = omega arith
-    go false = omega (arith, room-most f (e .mss))
-
--- and a cookie of a cookie's length, or none
-stored-allowed : (fast : Bool) (e : Entry) → length (e .cookie) ≡ 16 → optionAllowed fast (length (cookieOf e)) ≡ true
-stored-allowed fast e h = go (isCookieLength (e .len)) refl
-  where
-    go : (b : Bool) → isCookieLength (e .len) ≡ b → optionAllowed fast (length (take (cond b (e .len) 0) (e .cookie))) ≡ true
-    go true k =
-        let c = cookie-length (e .len) k in
-        rw (length-take-le (e .len) (e .cookie) (omega arith)) (allowed-found fast 16 0 (e .len) (record { fits = omega arith; size = c }))
-    go false k = allowed-request fast
-
--- addresses of one family
-pub one-family : (f : Family) (a b : List ℕ) → isAddress f a ≡ true → isAddress f b ≡ true → oneFamily a b ≡ true
-one-family V4 a b h k = rw (eqb-true (length a) 4 h, eqb-true (length b) 4 k)
-one-family V6 a b h k = rw (eqb-true (length a) 16 h, eqb-true (length b) 16 k)
 
 -- the option, as it was put there
 option-read : (mss : ℕ) (banned : Bool) (c : List ℕ) (o : Options) (area : List ℕ) → o ≡ foundFor mss (not banned) c
@@ -111,16 +73,13 @@ module _ (m : Memory) (l : Listener) (a : Asked) (e : Ends m l a) where
   sent-is : sent m a ≡ count
   sent-is = ap (λ (o : Outcome). countOf (o .event)) (step-done m (asking a) (e .done))
 
-  pub sent-fits : (sent m a ≤ 1460) × (sent m a ≤ length (a .offered))
+  pub sent-fits : (sent m a ≤ length (a .offered)) × (sent m a ≤ 1460)
   sent-fits = omega (arith, sent-is, sent-most (m .family) (isBanned m a) (storedFor m (a .server)) (length (a .offered)))
 
   read : ReadBack (a .own) (a .server) (openingFields fields) (stored m a) (take count (a .offered)) (opening m a)
   read =
       let data′ = take count (a .offered) in
-      let most = sent-most (m .family) (isBanned m a) (storedFor m (a .server)) (length (a .offered)) in
-      let can = opening-can (a .own) (a .server) fields (stored m a) data′ (a .room) (one-family (m .family) (a .own) (a .server) own-family server-family)
-      (stored-allowed (not (isBanned m a)) (storedFor m (a .server)) (e .stored-length)) (omega (arith, length-take count (a .offered)))
-      (ltb-false (a .room) 1504 (passed .1 .1 .1 .1 .0)) in
+      let can = opening-ready m (a .time) (a .own) (a .server) (a .ends) (a .offered) (a .room) (e .stored-length) (e .done) in
       let fits = opening-fits fields (e .source) (e .dest) (e .iss) (omega (arith, mss-most (a .ends .mss) (not-false _ (passed .1 .1 .1 .1 .1 .0)))) in
       subst (ReadBack (a .own) (a .server) (openingFields fields) (stored m a) data′) (sym (output-done m (asking a) (e .done)))
       (opening-read (a .own) (a .server) fields (stored m a) data′ (a .room) can fits (e .own-bytes) (e .server-bytes)
@@ -144,7 +103,7 @@ module _ (m : Memory) (l : Listener) (a : Asked) (e : Ends m l a) where
       }
 
   pub payload-length : length (payloadOf (opening m a)) ≡ sent m a
-  payload-length = ap length (opening-read-by-listener .content) ∙ length-take-le (sent m a) (a .offered) (sent-fits .1)
+  payload-length = ap length (opening-read-by-listener .content) ∙ length-take-le (sent m a) (a .offered) (sent-fits .0)
 
   -- the listener's address has the client's length
   listener-family : isAddress (l .home .family) (a .own) ≡ true

@@ -5,7 +5,7 @@ use mathlib.Core.List.{List}
 use native.Mathlib.Omega.{arith}
 use lib.ListN.{length, length-map, set}
 use lib.Seq.{set-out}
-use Rattle.client.specs.Bans.{newBan, banned, withBans}
+use Rattle.client.specs.Bans.{newBan, addBan, withBans}
 use Rattle.client.specs.declared.bans.Ban.{Ban}
 use borrow.Author.Needs.{needs}
 use Rattle.client.proofs.bans.set_ban.Statement.{statement}
@@ -24,13 +24,13 @@ element-set-from-x : tie.Need-element-set-from-x
 element-set-from-x c = search needs
 
 returns : tie.Need-returns
-unfolding banned
+unfolding addBan
 returns c =
     let a = c .before .before .args in
     ap (λ k. withBans (a .t1) (set (a .t1 .bans) k (newBan (a .time) (a .b) (a .port)))) (c .before .place-for .ensures)
 
 returns-2 : tie.Need-returns-2
-unfolding banned
+unfolding addBan
 returns-2 c =
     let a = c .before .before .args in
     let n : length (a .t1 .bans) ≡ 32 = simp length-map at (c .before .before .good .0 .1 .1 .1 .0 .1 .0 .1) in
