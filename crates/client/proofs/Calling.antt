@@ -21,7 +21,7 @@ use Rattle.client.specs.Cache.{cookieLength, entryFor}
 use Rattle.client.specs.Bans.{isBanned, addBan}
 use Rattle.client.specs.Call.{Call, connect, answer, failed}
 use Rattle.client.specs.Refusals.{countIn, openChecks, answerChecks, judged, judgedReply}
-use Rattle.client.specs.Step.{openingFor, sentWith, cookieIn, mssIn, cacheAfter, isLost, bansAfter, moved, after, doneEvent, doneOutput, outcomeOf, step, outputIf, outputOf}
+use Rattle.client.specs.Step.{openingFor, sentWith, cookieIn, mssIn, cacheAfter, isUnacknowledged, bansAfter, moved, after, doneEvent, doneOutput, outcomeOf, step, outputIf, outputOf}
 use Rattle.client.specs.declared.answer.ActiveOpen.{ActiveOpen}
 use Rattle.client.specs.declared.answer.Attempt.{Attempt}
 use Rattle.client.specs.declared.answer.Event.the-variants as events
@@ -138,7 +138,7 @@ module _ (m : Memory) (t : ℕ) (own server : List ℕ) (a : Attempt) (seg : Lis
     answer-time = time-most (m .clock) t (every-check theChecks clear .1 .0)
 
     pub answer-done : (next : Memory)
-        → next ≡ moved m t (cacheAfter (block server) (cookieIn seg) (mssIn seg) (m .cache)) (bansAfter t (block server) (a .dest) (isLost (a .sent) n) (m .bans))
+        → next ≡ moved m t (cacheAfter (block server) (cookieIn seg) (mssIn seg) (m .cache)) (bansAfter t (block server) (a .dest) (isUnacknowledged (a .sent) n) (m .bans))
         → record { memory = next; event = events.Answered n; written = 0 } ≡ step m answering
     unfolding after
     answer-done next e =
@@ -169,6 +169,6 @@ module _ (m : Memory) (t : ℕ) (server : List ℕ) (port : ℕ) where
     failed-time = time-most (m .clock) t (every-check (timely (m .started) (isUntimely (m .clock) t) ++ addressed (m .family) server) clear .1 .0)
 
     pub failed-done : (next : Memory) → next ≡ moved m t (m .cache) (addBan t (block server) port (m .bans))
-        → record { memory = next; event = events.Banned; written = 0 } ≡ step m failing
+        → record { memory = next; event = events.Reported; written = 0 } ≡ step m failing
     unfolding after
     failed-done next e = rw e (sym (step-done m failing (failed-judged ∙ clear)))

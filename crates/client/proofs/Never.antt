@@ -4,12 +4,12 @@ use mathlib.Core.Path.{_≡_, refl, sym, ap, _∙_}
 use mathlib.Core.Bool.{true, false}
 use mathlib.Core.List.{[]}
 use native.Mathlib.Omega.{arith}
-use Rattle.segment.specs.Refusal.{numberOf, applies, refusal}
+use Rattle.segment.specs.Refusal.{applies, refusal}
 use Rattle.segment.specs.declared.refusal.Refusal.{Refusal}
 use Rattle.segment.specs.declared.refusal.Refusal.the-variants.{NotStarted}
 use Rattle.segment.specs.declared.refusal.Check.{Check}
 use Rattle.segment.specs.declared.refusal.Check.the-variants.{Clear, Refused}
-use Rattle.segment.proofs.Numbers.{done-is-0}
+use Rattle.segment.proofs.Numbers.{positive}
 use Rattle.client.specs.Call.{Call, connect, answer, failed, numberOfEvent}
 use Rattle.client.specs.Refusals.{checks, judged}
 use Rattle.client.specs.Step.{startedBy, startChecks, startOf, doneEvent, outcomeOf, step, outputIf, outputOf}
@@ -38,13 +38,7 @@ refused-start n r e = go (refusal (startChecks n)) e
     go Clear q = absurd (let z : _≡_ {A = ℕ} 0 1 = cc in omega arith)
     go (Refused s) q = refl
 
--- a refusal's number is not 0, and a call that is done answers 0
-pub positive : (r : Refusal) → numberOf r ≡ 0 → ⊥
-positive r e =
-    let done = done-is-0 (Refused r) e in
-    let z : _≡_ {A = ℕ} 0 1 = cc in
-    omega arith
-
+-- a call that is done answers 0
 done-number : (m : Memory) (c : Call) → numberOfEvent (doneEvent m c) ≡ 0
 done-number m (connect t own server o offered room) = refl
 done-number m (answer t own server a seg) = refl

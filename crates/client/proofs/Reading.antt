@@ -1,17 +1,18 @@
--- Laws for a crate above: a call that is clear, a header that answers an attempt, and the cookie that an answer stores. Assumes nothing.
+-- Laws for a crate above: a call that is clear, a header that answers an attempt, and what an answer stores. Assumes nothing.
 use Prim.Native.Nat.{ℕ, _≤_}
 use mathlib.Core.Path.{_≡_, refl}
-use mathlib.Core.Bool.{true, false}
+use mathlib.Core.Bool.{true, false, not, or-true}
 use mathlib.Core.List.{List}
 use native.Mathlib.Omega.{arith}
 use lib.Dec.{leb, eqb}
 use lib.ListN.{length}
 use borrow.Author.Tests.{leb-true, eq-eqb, ne-eqb}
 use Rattle.segment.specs.Refusal.{refusal}
-use Rattle.segment.specs.Options.{isCookieLength, optionsOf}
+use Rattle.segment.specs.Options.{isCookieLength}
 use Rattle.segment.specs.declared.refusal.Check.the-variants.{Clear}
 use Rattle.segment.specs.declared.header.Header.{Header}
 use Rattle.segment.specs.declared.options.Mss.{Mss}
+use Rattle.segment.specs.declared.options.Mss.the-variants.{Given}
 use Rattle.segment.proofs.Bools.{and-true}
 use Rattle.segment.proofs.Cookie.{cookie-length}
 use Rattle.endpoint.specs.Address.{block}
@@ -20,7 +21,7 @@ use Rattle.endpoint.proofs.Names.{same-bytes-refl, short}
 use Rattle.client.specs.Cache.{isFor, entryFor, cookieOf}
 use Rattle.client.specs.Call.{Call, answer}
 use Rattle.client.specs.Refusals.{isMss, isBetween, checks, judged}
-use Rattle.client.specs.Step.{cookieIn, cacheAfter, storedFor, after}
+use Rattle.client.specs.Step.{cookieIn, mssIn, cacheAfter, storedFor, after}
 use Rattle.client.specs.declared.answer.Attempt.{Attempt}
 use Rattle.client.specs.declared.cache.Entry.{Entry}
 use Rattle.client.specs.declared.state.Memory.{Memory}
@@ -56,4 +57,14 @@ cookie-learned b c mss es e =
 pub cookie-stored : (m : Memory) (t : ℕ) (own server : List ℕ) (a : Attempt) (seg : List ℕ) → isCookieLength (length (cookieIn seg)) ≡ true
     → cookieOf (storedFor (after m (answer t own server a seg)) server) ≡ cookieIn seg
 unfolding after
-cookie-stored m t own server a seg e = cookie-learned (block server) (cookieIn seg) (optionsOf seg .mss) (m .cache) e
+cookie-stored m t own server a seg e = cookie-learned (block server) (cookieIn seg) (mssIn seg) (m .cache) e
+
+-- and so is an MSS
+mss-learned : (b c : List ℕ) (v : ℕ) (es : List Entry) → entryFor b (cacheAfter b c (Given v) es) .mss ≡ Given v
+unfolding isFor
+mss-learned b c v es = rw (or-true (not (eqb (length c) 0)), same-bytes-refl b)
+
+pub mss-stored : (m : Memory) (t : ℕ) (own server : List ℕ) (a : Attempt) (seg : List ℕ) (v : ℕ) → mssIn seg ≡ Given v
+    → storedFor (after m (answer t own server a seg)) server .mss ≡ Given v
+unfolding after
+mss-stored m t own server a seg v e = rw e (mss-learned (block server) (cookieIn seg) v (m .cache))

@@ -11,9 +11,8 @@ use Rattle.segment.specs.Options.{firstMss}
 use Rattle.segment.specs.declared.options.Mss.{Mss}
 use Rattle.segment.specs.declared.options.Mss.the-variants.{NotGiven, Given}
 use Rattle.segment.proofs.Bools.{or-false, chosen}
-use Rattle.endpoint.specs.Lists.{sameBytes}
+use Rattle.endpoint.specs.Lists.{sameBytes, dropFirst}
 use Rattle.endpoint.proofs.Names.{same-bytes-eq, same-bytes-refl}
-use Rattle.client.specs.Cache.{dropFirst}
 use Rattle.client.specs.Step.{isGiven}
 use Rattle.client.specs.History.{Store, member, without, distinct, recent, lastCookie, lastMss, recalled, Once}
 

@@ -13,6 +13,7 @@ use Rattle.segment.specs.declared.refusal.Check.{Check}
 use Rattle.segment.specs.declared.refusal.Check.the-variants.{Clear, Refused}
 use Rattle.segment.specs.declared.options.Mss.{Mss}
 use Rattle.segment.specs.declared.options.Mss.the-variants.{NotGiven, Given}
+use Rattle.segment.proofs.Numbers.{positive}
 use Rattle.segment.proofs.Bools.{or-false, chosen}
 use Rattle.endpoint.specs.Address.{size, block}
 use Rattle.endpoint.specs.Checks.{isUntimely}
@@ -23,10 +24,9 @@ use Rattle.client.specs.Cache.{entryFor, learnedFrom, remembered}
 use Rattle.client.specs.Call.{Call, connect, answer, failed, numberOfEvent}
 use Rattle.client.specs.Refusals.{checks, judged}
 use Rattle.client.specs.Step.{startedBy, startChecks, startOf, cookieIn, mssIn, brings, cacheAfter, isNegative, after, doneEvent, outcomeOf, step}
-use Rattle.client.specs.History.{Store, isStore, storesWith, storesAfter, distinct, recalled, run, numbered, storesOf, started, left, stores, Remembers}
+use Rattle.client.specs.History.{Store, isStore, storesWith, storesAfter, distinct, recalled, run, numbered, storesOf, started, memoryAfter, stores, Remembers}
 use Rattle.client.specs.declared.cache.Entry.{Entry}
 use Rattle.client.specs.declared.state.Memory.{Memory}
-use Rattle.client.proofs.Never.{positive}
 use Rattle.client.proofs.Recalling.{found-recalled, recalled-more, recent-once}
 use Rattle.client.proofs.Storing.{Kept, cookie-sized, Filled, blank-filled, filled-stored, entry-found, cookie-found, filled-more, kept-more}
 use Rattle.client.proofs.Banning.{Alone, blank-alone, later-alone, banned-alone}
@@ -141,7 +141,7 @@ right-start n = go (refusal (startChecks n))
 pub remembers : (n : ℕ) → startOf n .check ≡ Clear → (calls : List Call) → Remembers n calls
 remembers n done calls =
     let f = started n calls .family in
-    let es = left n calls .cache in
+    let es = memoryAfter n calls .cache in
     let s = stores n calls in
     let r = right-run f (started n calls) [] calls (right-start n) in
     let kept = r .stored .0 in

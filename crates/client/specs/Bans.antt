@@ -1,11 +1,12 @@
 -- Document 01, "Client": the bans, which of them are live, and where a new one goes.
 -- Assumes nothing.
 use Prim.Native.Nat.{ℕ, _+_}
-use mathlib.Core.List.{List, [], _∷_}
-use mathlib.Core.Bool.{Bool, true, cond, not, _&&_}
-use lib.Dec.{ltb, leb, eqb}
+use mathlib.Core.List.{List}
+use mathlib.Core.Bool.{Bool, cond, not, _&&_}
+use lib.Dec.{ltb, leb}
 use lib.ListN.{replicate, set}
-use Rattle.endpoint.specs.Lists.{sameBytes, firstIndex}
+use Rattle.endpoint.specs.Lists.{firstIndex, every}
+use Rattle.endpoint.specs.Address.{sameName}
 use Rattle.client.specs.declared.bans.Ban.{Ban}
 use Rattle.client.specs.declared.state.Memory.{Memory}
 
@@ -13,13 +14,13 @@ use Rattle.client.specs.declared.state.Memory.{Memory}
 abbrev pub noBan : Ban
 noBan = record { addr = replicate 16 0; port = 0; end = 0 }
 
--- a ban is live while its end is after the call's time
+-- a ban is live at a time before its end
 abbrev pub isLive : ℕ → Ban → Bool
 isLive t x = ltb t (x .end)
 
 -- a live ban of the server with this block and port
 unfoldable pub isBan : ℕ → List ℕ → ℕ → Ban → Bool
-isBan t b port x = isLive t x && (eqb (x .port) port && sameBytes (x .addr) b)
+isBan t b port x = isLive t x && sameName (x .port) port (x .addr) b
 
 abbrev pub banPlace : ℕ → List ℕ → ℕ → List Ban → ℕ
 banPlace t b port bans = firstIndex (isBan t b port) bans
@@ -30,10 +31,6 @@ isBanned t b port bans = ltb (banPlace t b port bans) 32
 -- the lowest place that is not live; 32 where all are
 abbrev pub freePlace : ℕ → List Ban → ℕ
 freePlace t bans = firstIndex (λ x. not (isLive t x)) bans
-
-abbrev pub every : {A : Type 0} → (A → Bool) → List A → Bool
-every p [] = true
-every p (x ∷ xs) = p x && every p xs
 
 -- the lowest place of those that end first
 unfoldable pub endsFirst : List Ban → ℕ

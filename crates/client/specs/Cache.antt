@@ -1,14 +1,14 @@
 -- Document 01, "Client": what is stored for a server address, how much data goes with its cookie, and the order of the stored addresses.
 -- Assumes nothing.
 use Prim.Native.Nat.{ℕ, min}
-use mathlib.Core.List.{List, [], _∷_}
+use mathlib.Core.List.{List, _∷_}
 use mathlib.Core.Bool.{Bool, true, false, cond, _&&_}
 use lib.Dec.{eqb}
 use lib.ListN.{length, take, getD, replicate}
 use Rattle.segment.specs.Options.{isCookieLength, firstMss}
 use Rattle.segment.specs.declared.options.Mss.{Mss}
 use Rattle.segment.specs.declared.options.Mss.the-variants.{NotGiven, Given}
-use Rattle.endpoint.specs.Lists.{sameBytes, firstIndex}
+use Rattle.endpoint.specs.Lists.{sameBytes, firstIndex, dropFirst}
 use Rattle.endpoint.specs.Address.{block}
 use Rattle.endpoint.specs.declared.address.Family.{Family}
 use Rattle.endpoint.specs.declared.address.Family.the-variants.{V4, V6}
@@ -68,11 +68,6 @@ learnedFrom old b cookie mss =
       len = cond (eqb (length cookie) 0) (old .len) (length cookie);
       mss = firstMss mss (old .mss);
     }
-
--- the list without the first element that passes a test
-abbrev pub dropFirst : {A : Type 0} → (A → Bool) → List A → List A
-dropFirst p [] = []
-dropFirst p (x ∷ xs) = cond (p x) xs (x ∷ dropFirst p xs)
 
 -- The most recent is first. An entry that is stored leaves its address's old place and becomes the most recent; of 33 the least recent is dropped.
 abbrev pub remembered : Entry → List Entry → List Entry

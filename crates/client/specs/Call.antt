@@ -6,7 +6,7 @@ use Rattle.segment.specs.Refusal.{numberOf}
 use Rattle.client.specs.declared.answer.ActiveOpen.{ActiveOpen}
 use Rattle.client.specs.declared.answer.Attempt.{Attempt}
 use Rattle.client.specs.declared.answer.Event.{Event}
-use Rattle.client.specs.declared.answer.Event.the-variants.{Refused, Opened, Answered, Banned}
+use Rattle.client.specs.declared.answer.Event.the-variants.{Refused, Opened, Answered, Reported}
 
 -- A call with its arguments, the time first. 01's open has own address, the server's address, ports and numbers, the data offered and the output's length; an answer has
 -- both addresses, the attempt and the segment; a failure has the server's address and port.
@@ -20,11 +20,11 @@ abbrev pub numberOfEvent : Event → ℕ
 numberOfEvent (Refused r) = numberOf r
 numberOfEvent (Opened n) = 0
 numberOfEvent (Answered n) = 0
-numberOfEvent Banned = 0
+numberOfEvent Reported = 0
 
 -- the bytes of data sent, or acknowledged
 abbrev pub countOf : Event → ℕ
 countOf (Refused r) = 0
 countOf (Opened n) = n
 countOf (Answered n) = n
-countOf Banned = 0
+countOf Reported = 0

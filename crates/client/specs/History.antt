@@ -121,21 +121,21 @@ module _ (n : ℕ) (calls : List Call) where
   abbrev pub started : Memory
   started = startOf n .memory
 
-  abbrev pub left : Memory
-  left = run started calls
+  abbrev pub memoryAfter : Memory
+  memoryAfter = run started calls
 
   abbrev pub stores : List Store
   stores = storesOf [] (numbered started calls)
 
   pub record Remembers : Type 0 where
     -- the stored addresses are the 32 most recent, in their order, each with its last cookie and its last MSS
-    pub stored : storedIn (started .family) (left .cache) ≡ recalled stores
+    pub stored : storedIn (started .family) (memoryAfter .cache) ≡ recalled stores
     -- so an opening finds the last cookie of its server, and the last MSS
     pub found : (server : List ℕ) → isAddress (started .family) server ≡ true
-        → (cookieOf (storedFor left server) ≡ lastCookie server stores) × (storedFor left server .mss ≡ lastMss server stores)
+        → (cookieOf (storedFor memoryAfter server) ≡ lastCookie server stores) × (storedFor memoryAfter server .mss ≡ lastMss server stores)
     -- no address stands twice
-    pub once : Once (map (λ x. x .address) (storedIn (started .family) (left .cache)))
+    pub once : Once (map (λ x. x .address) (storedIn (started .family) (memoryAfter .cache)))
     -- no two live bans have one name, at the clock or later
-    pub alone : (t : ℕ) → left .clock ≤ t → (b : List ℕ) (port : ℕ) → tally (isBan t b port) (left .bans) ≤ 1
+    pub alone : (t : ℕ) → memoryAfter .clock ≤ t → (b : List ℕ) (port : ℕ) → tally (isBan t b port) (memoryAfter .bans) ≤ 1
     -- the clock never falls, whatever calls come after
-    pub clock : (more : List Call) → left .clock ≤ run started (calls ++ more) .clock
+    pub clock : (more : List Call) → memoryAfter .clock ≤ run started (calls ++ more) .clock

@@ -93,12 +93,12 @@ abbrev pub cacheAfter : List ℕ → List ℕ → Mss → List Entry → List En
 cacheAfter b cookie mss es = cond (brings cookie mss) (remembered (learnedFrom (entryFor b es) b cookie mss) es) es
 
 -- data was sent and none acknowledged
-abbrev pub isLost : ℕ → ℕ → Bool
-isLost sent count = not (eqb sent 0) && eqb count 0
+abbrev pub isUnacknowledged : ℕ → ℕ → Bool
+isUnacknowledged sent count = not (eqb sent 0) && eqb count 0
 
 -- an answer sets a ban if it is a negative response
 abbrev pub isNegative : Attempt → List ℕ → Bool
-isNegative a seg = isLost (a .sent) (countIn a (fieldsOf seg))
+isNegative a seg = isUnacknowledged (a .sent) (countIn a (fieldsOf seg))
 
 abbrev pub bansAfter : ℕ → List ℕ → ℕ → Bool → List Ban → List Ban
 bansAfter t b port negative bans = cond negative (addBan t b port bans) bans
@@ -126,7 +126,7 @@ storedFor m server = entryFor (block server) (m .cache)
 abbrev pub doneEvent : Memory → Call → Event
 doneEvent m (connect t own server o offered room) = events.Opened (sentWith (m .family) (bannedFor m t server o) (storedFor m server) (length offered))
 doneEvent m (answer t own server a seg) = events.Answered (countIn a (fieldsOf seg))
-doneEvent m (failed t server port) = events.Banned
+doneEvent m (failed t server port) = events.Reported
 
 abbrev pub doneOutput : Memory → Call → List ℕ
 doneOutput m (connect t own server o offered room) = openingWith (m .family) (bannedFor m t server o) (storedFor m server) own server o offered room

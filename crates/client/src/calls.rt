@@ -38,7 +38,7 @@ ghost use Rattle.segment.specs.Write.{overwrite};
 ghost use Rattle.client.specs.Cache.{withCache};
 ghost use Rattle.client.specs.Bans.{withBans};
 ghost use Rattle.client.specs.Call.{Call};
-ghost use Rattle.client.specs.Step.{blank, neverStarted, startOf, sentWith, isGiven, cacheAfter, isLost, bansAfter, step, outputOf, moved};
+ghost use Rattle.client.specs.Step.{blank, neverStarted, startOf, sentWith, isGiven, cacheAfter, isUnacknowledged, bansAfter, step, outputOf, moved};
 
 // A refused call changes nothing.
 fn refused(m: Memory, why: Refusal) -> Outcome
@@ -187,7 +187,7 @@ fn learn(m: Memory, b: [u8; 16], cookie: &[u8], mss: Mss) -> Memory
 // Bans the server if data was sent and none acknowledged.
 fn ban_if_negative(m: Memory, time: u64, b: [u8; 16], a: Attempt, acknowledged: u32) -> Memory
     requires { ⌜ time ≤ 2 ^ 48 ⌝ }
-    ensures { λ r. ⌜ r ≡ withBans m (bansAfter time b (a .dest) (isLost (a .sent) acknowledged) (m .bans)) ⌝ }
+    ensures { λ r. ⌜ r ≡ withBans m (bansAfter time b (a .dest) (isUnacknowledged (a .sent) acknowledged) (m .bans)) ⌝ }
 {
     if a.sent == 0 {
         return m;
@@ -233,7 +233,7 @@ pub fn failed(m: Memory, time: u64, server: &[u8], port: u16) -> Outcome
             let next = set_ban(m, time, b, port);
             Outcome {
                 memory: at_time(next, time),
-                event: Event::Banned,
+                event: Event::Reported,
                 written: 0,
             }
         }

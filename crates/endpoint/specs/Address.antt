@@ -18,7 +18,7 @@ size V6 = 16
 abbrev pub isSize : ℕ → Bool
 isSize n = eqb n 4 || eqb n 16
 
--- the family of addresses of such a length
+-- the family of addresses of such a length; V6 for a length that no family has
 abbrev pub familyOf : ℕ → Family
 familyOf n = cond (eqb n 4) V4 V6
 
@@ -29,6 +29,10 @@ isAddress f a = eqb (length a) (size f)
 -- the block of 16 bytes: the address, followed by zero bytes
 unfoldable pub block : List ℕ → List ℕ
 block a = a ++ replicate (16 - length a) 0
+
+-- two names are the same: the ports, and the blocks of the addresses
+abbrev pub sameName : ℕ → ℕ → List ℕ → List ℕ → Bool
+sameName p q a b = eqb p q && sameBytes a b
 
 -- 01's name of a connection: source address and source port
 pub record Peer : Type 0 where

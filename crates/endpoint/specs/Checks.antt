@@ -13,8 +13,10 @@ use Rattle.endpoint.specs.declared.address.Family.{Family}
 abbrev pub isUntimely : ℕ → ℕ → Bool
 isUntimely clock t = ltb t clock || ltb (2 ^ 48) t
 
+-- 13, then 5
 abbrev pub timely : Bool → Bool → Checks
 timely started untimely = (NotStarted, not started) ∷ (Time, untimely) ∷ []
 
+-- 2
 abbrev pub addressed : Family → List ℕ → Checks
 addressed f a = (Address, not (isAddress f a)) ∷ []

@@ -35,3 +35,13 @@ module _ {A : Type 0} where
   abbrev pub amend : (A → List A) → List A → List A
   amend rule [] = []
   amend rule (x ∷ xs) = rule x ++ amend rule xs
+
+  -- every element passes a test
+  abbrev pub every : (A → Bool) → List A → Bool
+  every p [] = true
+  every p (x ∷ xs) = p x && every p xs
+
+  -- the list without the first element that passes a test
+  abbrev pub dropFirst : (A → Bool) → List A → List A
+  dropFirst p [] = []
+  dropFirst p (x ∷ xs) = cond (p x) xs (x ∷ dropFirst p xs)

@@ -1,10 +1,8 @@
 // Addresses of both families, the blocks of 16 bytes that they are kept as, and when two are the same.
 ghost use mathlib.Core.Path.{_≡_};
-ghost use mathlib.Core.Bool.{_&&_};
-ghost use lib.Dec.{eqb};
 ghost use lib.ListN.{take};
 ghost use Rattle.endpoint.specs.Lists.{sameBytes};
-ghost use Rattle.endpoint.specs.Address.{size, isSize, familyOf, isAddress, block};
+ghost use Rattle.endpoint.specs.Address.{size, isSize, familyOf, isAddress, block, sameName};
 
 // The family of addresses that is fixed at the start.
 pub enum Family {
@@ -70,7 +68,7 @@ pub fn same_block(a: [u8; 16], b: [u8; 16]) -> bool
 
 // Whether two names are the same, given their ports and the blocks of their addresses.
 pub fn same_name(p: u16, q: u16, a: [u8; 16], b: [u8; 16]) -> bool
-    ensures { λ r. ⌜ r ≡ eqb p q && sameBytes a b ⌝ }
+    ensures { λ r. ⌜ r ≡ sameName p q a b ⌝ }
 {
     let same = same_block(a, b);
     if p != q {

@@ -38,13 +38,13 @@ use Rattle.listener.proofs.Cookies.{cookie-eight, cookie-bytes}
 use Rattle.listener.proofs.Judging.{judged-segment, output-done}
 use Rattle.listener.proofs.Openings.{slotFor, step-new}
 use Rattle.client.specs.Refusals.{judged, countIn}
-use Rattle.client.specs.Step.{cookieIn}
+use Rattle.client.specs.Step.{cookieIn, storedFor}
 use Rattle.client.specs.declared.answer.Event.the-variants.{Answered}
 use Rattle.client.specs.declared.answer.Outcome as client-answer
 use Rattle.client.specs.declared.state.Memory.{Memory}
 use Rattle.client.proofs.Calling as calling
 use Rattle.client.proofs.Reading as reading
-use Rattle.handshake.specs.Handshake.{Asked, opening, sent, Heard, hearing, reply, accepted, attempted, returning, Ends, stored, Taken, Later, renewed, current, AnswerRead}
+use Rattle.handshake.specs.Handshake.{Asked, opening, sent, Arrival, arriving, reply, accepted, attempted, returning, Ends, stored, Taken, Later, renewed, current, AnswerRead}
 use Rattle.handshake.proofs.Opening.{own-family, server-family, sent-fits, payload-length, opening-read-by-listener}
 
 first-clear : (x y : Check) → andThen x y ≡ Clear → x ≡ Clear
@@ -73,7 +73,7 @@ cookie-read : (mss : ℕ) (fresh : Bool) (c : List ℕ) (o : Options) (area : Li
 cookie-read mss true c o area e h = h refl
 cookie-read mss false c o area e h = rw e
 
-module _ (m : Memory) (l : Listener) (a : Asked) (e : Ends m l a) (h : Heard) (k : Taken m l a h) where
+module _ (m : Memory) (l : Listener) (a : Asked) (e : Ends m l a) (h : Arrival) (k : Taken m l a h) where
   abbrev seg : List ℕ
   seg = opening m a
 
@@ -103,7 +103,7 @@ module _ (m : Memory) (l : Listener) (a : Asked) (e : Ends m l a) (h : Heard) (k
 
   reply-is : reply m l a h ≡ answerBytes (a .server) (a .own) fields (current l a) (h .room)
   reply-is =
-      output-done l (hearing m a h) (k .clear)
+      output-done l (arriving m a h) (k .clear)
       ∙ ap (λ (x : Kind). segmentOutput v (h .time) (a .own) seg (h .iss) (h .room) (segmentEvent v (block (a .own)) seg x)) (opening-read-by-listener m l a e .kind)
       ∙ ap (λ (x : Bool). segmentOutput v (h .time) (a .own) seg (h .iss) (h .room) (openingEvent x v (block (a .own)) seg)) (k .new)
       ∙ new-output v (h .time) (a .own) seg (h .iss) (h .room) n early
@@ -171,4 +171,7 @@ module _ (m : Memory) (l : Listener) (a : Asked) (e : Ends m l a) (h : Heard) (k
               ap (λ (o : client-answer.Outcome). stored (o .memory) a) done
               ∙ reading.cookie-stored m′ t (a .own) (a .server) (attempted m a) (reply m l a h) (fresh-length f)
               ∙ cookie-is ∙ ap (λ (b : Bool). cond b (current l a) []) f;
+          size =
+              ap (λ (o : client-answer.Outcome). storedFor (o .memory) (a .server) .mss) done
+              ∙ reading.mss-stored m′ t (a .own) (a .server) (attempted m a) (reply m l a h) (l .settings .mss) (ap (λ (o : Options). o .mss) (read .options));
         }

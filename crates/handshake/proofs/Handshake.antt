@@ -19,13 +19,13 @@ use Rattle.listener.proofs.Openings.{is-early, request-plain, request-fresh, ne
 use Rattle.listener.proofs.Parts as parts
 use Rattle.client.specs.declared.answer.Event.the-variants.{Answered}
 use Rattle.client.specs.declared.state.Memory.{Memory}
-use Rattle.handshake.specs.Handshake.{Asked, opening, sent, Heard, hearing, Ends, carriedWith, stored, Issued, Taken, Later, Welcome, FirstVisit, upToRoom, EarlyData, Handshake}
-use Rattle.handshake.proofs.Opening.{payload-length, opening-read-by-listener, wire-clear, right-cookie}
+use Rattle.handshake.specs.Handshake.{Asked, opening, sent, Arrival, arriving, Ends, carriedWith, stored, Issued, Taken, Later, Admits, CookieRequest, upToRoom, EarlyData, Handshake}
+use Rattle.handshake.proofs.Opening.{payload-length, opening-read-by-listener, wire-clear, kind-judged, none-sent, right-cookie}
 use Rattle.handshake.proofs.Answer.{answer-read-by-client}
 
 module _ (m : Memory) (l : Listener) (a : Asked) (e : Ends m l a) where
-  module _ (h : Heard) (w : Welcome m l a h) where
-    -- a welcome opening is done
+  module _ (h : Arrival) (w : Admits m l a h) where
+    -- an opening that is admitted is done
     taken : Taken m l a h
     taken =
         record {
@@ -40,23 +40,24 @@ module _ (m : Memory) (l : Listener) (a : Asked) (e : Ends m l a) where
     request-read none =
         opening-read-by-listener m l a e .option ∙ ap (λ (t : Bool). carriedWith t (stored m a)) (w .free) ∙ ap (carriedWith false) none
 
-    plain-event : stored m a ≡ [] → listener.step l (hearing m a h) .event ≡ events.Regular
+    plain-event : stored m a ≡ [] → listener.step l (arriving m a h) .event ≡ events.Regular
     plain-event none =
         ap (λ (o : Outcome). o .event)
         (step-new l (h .time) (a .own) (opening m a) (h .iss) (h .room) (opening-read-by-listener m l a e .kind) (w .new) false
-        (request-plain (viewOf l (hearing m a h)) (block (a .own)) (opening m a) (request-read none)) (taken .clear))
+        (request-plain (viewOf l (arriving m a h)) (block (a .own)) (opening m a) (request-read none)) (taken .clear))
 
-    first-visit : stored m a ≡ [] → (m′ : Memory) (t : ℕ) → Later m m′ t → FirstVisit m l a h m′ t
-    first-visit none m′ t g =
+    cookie-request : stored m a ≡ [] → (m′ : Memory) (t : ℕ) → Later m m′ t → CookieRequest m l a h m′ t
+    cookie-request none m′ t g =
         let read = answer-read-by-client m l a e h taken m′ t g in
         record {
+          none = none-sent m l a e none;
           event = plain-event none;
           answered = read .event ∙ ap (λ (x : Event). Answered (acceptedOf x)) (plain-event none);
           kept = read .kept (request-fresh l (h .time) (a .own) (opening m a) (w .on) (w .below) (request-read none));
         }
 
     -- with one that was issued it is early
-    early-event : Issued (l .keys) (block (a .own)) (stored m a) → listener.step l (hearing m a h) .event ≡ events.FastOpen (upToRoom m l a)
+    early-event : Issued (l .keys) (block (a .own)) (stored m a) → listener.step l (arriving m a h) .event ≡ events.FastOpen (upToRoom m l a)
     early-event i =
         let right = right-cookie m l a e (w .free) i in
         let early = is-early l (h .time) (a .own) (opening m a) (w .on) (w .below) right in
@@ -66,11 +67,11 @@ module _ (m : Memory) (l : Listener) (a : Asked) (e : Ends m l a) where
 
     early-data : Issued (l .keys) (block (a .own)) (stored m a) → (m′ : Memory) (t : ℕ) → Later m m′ t → EarlyData m l a h m′ t
     early-data i m′ t g =
-        let count : upToRoom m l a ≡ acceptedOf (listener.step l (hearing m a h) .event) = ap acceptedOf (sym (early-event i)) in
+        let count : upToRoom m l a ≡ acceptedOf (listener.step l (arriving m a h) .event) = ap acceptedOf (sym (early-event i)) in
         record {
           event = early-event i;
           part =
-              sym (parts.taken (opening m a) (listener.step l (hearing m a h) .event) (sym (opening-read-by-listener m l a e .content)) count
+              sym (parts.taken (opening m a) (listener.step l (arriving m a h) .event) (sym (opening-read-by-listener m l a e .content)) count
               (omega (arith, ap length (opening-read-by-listener m l a e .content), payload-length m l a e)))
               ∙ take-take (upToRoom m l a) (sent m a) (a .offered) (omega arith);
           answered = answer-read-by-client m l a e h taken m′ t g .event ∙ ap Answered (sym count);
@@ -80,9 +81,9 @@ module _ (m : Memory) (l : Listener) (a : Asked) (e : Ends m l a) where
   handshake =
       record {
         opened = opening-read-by-listener m l a e;
-        heard = wire-clear m l a e;
-        trusted = right-cookie m l a e;
+        judged-by-kind = kind-judged m l a e;
+        right-cookie = right-cookie m l a e;
         answered = answer-read-by-client m l a e;
-        first = first-visit;
+        requested = cookie-request;
         early = early-data;
       }

@@ -1,7 +1,7 @@
 -- The client's opening, as the listener reads it. Assumes nothing.
 use Prim.Native.Nat.{ℕ, _≤_}
 use mathlib.Core.Path.{_≡_, refl, ap, sym, _∙_, subst}
-use mathlib.Core.Bool.{Bool, true, false, not}
+use mathlib.Core.Bool.{Bool, true, false, not, or-true}
 use mathlib.Core.List.{List, [], _∷_}
 use native.Mathlib.Omega.{arith}
 use lib.ListN.{length, take}
@@ -14,6 +14,8 @@ use Rattle.segment.specs.Checksum.{checksumRight}
 use Rattle.segment.specs.Write.{openingFields}
 use Rattle.segment.specs.declared.refusal.Check.the-variants.{Clear}
 use Rattle.segment.specs.declared.header.Header.{Header}
+use Rattle.segment.specs.declared.header.Kind.{Kind}
+use Rattle.segment.specs.declared.header.Kind.the-variants.{Syn}
 use Rattle.segment.specs.declared.options.Options.{Options}
 use Rattle.segment.specs.declared.write.Opening.{Opening}
 use Rattle.segment.proofs.ByteLists.{bytes-take}
@@ -23,11 +25,13 @@ use Rattle.segment.proofs.Exchange.{opening-fits, opening-read, opening-kind}
 use Rattle.endpoint.specs.Address.{size, isAddress, block}
 use Rattle.endpoint.specs.Checks.{isUntimely}
 use Rattle.endpoint.proofs.Blocks.{own-part}
+use Rattle.endpoint.proofs.Chain as chains
 use Rattle.endpoint.proofs.Clear.{Passed}
 use Rattle.listener.specs.Cookie.{cookie, found, cookieUnder, carriedBy, right}
-use Rattle.listener.specs.View.{ownAddress}
-use Rattle.listener.specs.Refusals.{wireChecks}
+use Rattle.listener.specs.View.{ownAddress, viewOf}
+use Rattle.listener.specs.Refusals.{wireChecks, kindChecks, judged}
 use Rattle.listener.specs.declared.state.Listener.{Listener}
+use Rattle.listener.proofs.Judging.{judged-segment}
 use Rattle.listener.proofs.Cookies.{cookie-eight, issued-right, right-now, right-before, carried-found}
 use Rattle.client.specs.Cache.{cookieLength}
 use Rattle.client.specs.Call.{countOf}
@@ -37,9 +41,9 @@ use Rattle.client.specs.declared.answer.Outcome.{Outcome}
 use Rattle.client.specs.declared.state.Memory.{Memory}
 use Rattle.client.proofs.Calling.{step-done, output-done}
 use Rattle.client.proofs.Openings.{opening-ready}
-use Rattle.client.proofs.Parts.{sent-most}
+use Rattle.client.proofs.Parts.{cookie-most, sent-most}
 use Rattle.client.proofs.Reading.{clear-passed, mss-most}
-use Rattle.handshake.specs.Handshake.{Asked, asking, opening, sent, Heard, Ends, carriedWith, stored, isBanned, OpeningRead, Listens, Issued, now, before}
+use Rattle.handshake.specs.Handshake.{Asked, asking, opening, sent, Arrival, arriving, Ends, carriedWith, stored, isBanned, OpeningRead, Listens, Issued, present, previous}
 
 -- the option, as it was put there
 option-read : (mss : ℕ) (banned : Bool) (c : List ℕ) (o : Options) (area : List ℕ) → o ≡ foundFor mss (not banned) c
@@ -112,12 +116,25 @@ module _ (m : Memory) (l : Listener) (a : Asked) (e : Ends m l a) where
       eq-eqb (length (a .own)) (size (l .home .family))
       (eqb-true (length (a .own)) (size (m .family)) own-family ∙ sym (eqb-true (length (a .server)) (size (m .family)) server-family) ∙ sym n)
 
-  pub wire-clear : (h : Heard) → Listens l h
+  pub wire-clear : (h : Arrival) → Listens l h
       → refusal (wireChecks (l .home) (isUntimely (l .clock) (h .time)) (a .own) (opening m a) (h .room)) ≡ Clear
   wire-clear h g =
       let o = opening-read-by-listener in
       let sum : checksumRight (a .own) (ownAddress (l .home)) (opening m a) ≡ true = rw (e .address) (o .checksum) in
       rw (g .started, g .timely, listener-family, le-ltb (h .room) 36 (g .room), o .formed, sum, eq-eqb (fieldsOf (opening m a) .dest) (l .home .port) (o .dest ∙ sym (e .port)))
+
+  pub kind-judged : (h : Arrival) → Listens l h → judged l (arriving m a h) ≡ refusal (kindChecks (viewOf l (arriving m a h)) (fieldsOf (opening m a)) Syn)
+  kind-judged h g =
+      chains.passed _ _ _ (judged-segment l (h .time) (a .own) (opening m a) (h .iss) (h .room)) (wire-clear h g)
+      ∙ ap (λ (k : Kind). refusal (kindChecks (viewOf l (arriving m a h)) (fieldsOf (opening m a)) k)) (opening-read-by-listener .kind)
+
+  -- no data goes with a request
+  pub none-sent : stored m a ≡ [] → sent m a ≡ 0
+  none-sent q =
+      let entry = storedFor m (a .server) in
+      let whole = length-take-le (cookieLength entry) (entry .cookie) (omega (arith, cookie-most entry, e .stored-length)) in
+      let z : cookieLength entry ≡ 0 = sym whole ∙ ap length q in
+      sent-is ∙ rw (eq-eqb _ _ z, or-true (isBanned m a))
 
   -- what it finds is the cookie that was stored
   carried : (w : List ℕ) → isBanned m a ≡ false → stored m a ≡ cookieUnder w (block (a .own)) → carriedBy (opening m a) ≡ cookie (cookieUnder w (block (a .own)))
@@ -126,7 +143,7 @@ module _ (m : Memory) (l : Listener) (a : Asked) (e : Ends m l a) where
       ∙ carried-cookie (cookieUnder w (block (a .own))) (cookie-eight w (block (a .own)))
 
   pub right-cookie : isBanned m a ≡ false → Issued (l .keys) (block (a .own)) (stored m a) → right (l .keys) (block (a .own)) (carriedBy (opening m a)) ≡ true
-  right-cookie free (now q) =
+  right-cookie free (present q) =
       rw (carried (l .keys .present) free q) (right-now (l .keys) (block (a .own)) _ (issued-right (l .keys .present) (block (a .own))))
-  right-cookie free (before r q) =
+  right-cookie free (previous r q) =
       rw (carried (l .keys .previous) free q) (right-before (l .keys) (block (a .own)) _ r (issued-right (l .keys .previous) (block (a .own))))

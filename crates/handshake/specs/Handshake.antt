@@ -1,4 +1,4 @@
--- The two ends fit: what the client writes is read by the listener as it was meant, and what the listener answers is read by the client.
+-- The two ends fit, in the first two segments of a handshake: what the client writes is read by the listener as it was meant, and what the listener answers by the client.
 -- Assumes nothing.
 use Prim.Native.Nat.{ℕ, _^_, _≤_, _<_, min}
 use mathlib.Core.Path.{_≡_}
@@ -20,7 +20,7 @@ use Rattle.listener.specs.Table.{freePlace, pendingAt}
 use Rattle.listener.specs.Call.{segment, acceptedOf, acceptedPart}
 use Rattle.listener.specs.Call as listener-calls
 use Rattle.listener.specs.View.{known, ownAddress, viewOf}
-use Rattle.listener.specs.Refusals.{wireChecks}
+use Rattle.listener.specs.Refusals.{kindChecks}
 use Rattle.listener.specs.Refusals as listener-checks
 use Rattle.listener.specs.Step.{isFresh}
 use Rattle.listener.specs.Step as listener
@@ -60,26 +60,26 @@ abbrev pub sent : Memory → Asked → ℕ
 sent m a = countOf (client.step m (asking a) .event)
 
 -- what goes with an opening at the listener: the time, its initial number, the output's length
-pub record Heard : Type 0 where
+pub record Arrival : Type 0 where
   pub time : ℕ
   pub iss : ℕ
   pub room : ℕ
 
-abbrev pub hearing : Memory → Asked → Heard → listener-calls.Call
-hearing m a h = segment (h .time) (a .own) (opening m a) (h .iss) (h .room)
+abbrev pub arriving : Memory → Asked → Arrival → listener-calls.Call
+arriving m a h = segment (h .time) (a .own) (opening m a) (h .iss) (h .room)
 
 -- the answer that the listener writes, and how many bytes it accepted
-abbrev pub reply : Memory → Listener → Asked → Heard → List ℕ
-reply m l a h = listener.outputOf l (hearing m a h)
+abbrev pub reply : Memory → Listener → Asked → Arrival → List ℕ
+reply m l a h = listener.outputOf l (arriving m a h)
 
-abbrev pub accepted : Memory → Listener → Asked → Heard → ℕ
-accepted m l a h = acceptedOf (listener.step l (hearing m a h) .event)
+abbrev pub accepted : Memory → Listener → Asked → Arrival → ℕ
+accepted m l a h = acceptedOf (listener.step l (arriving m a h) .event)
 
 -- the answer comes to the client, with the attempt as the program kept it
 abbrev pub attempted : Memory → Asked → Attempt
 attempted m a = record { source = a .ends .source; dest = a .ends .dest; iss = a .ends .iss; sent = sent m a }
 
-abbrev pub returning : Memory → Listener → Asked → Heard → ℕ → client-calls.Call
+abbrev pub returning : Memory → Listener → Asked → Arrival → ℕ → client-calls.Call
 returning m l a h t = answer t (a .own) (a .server) (attempted m a) (reply m l a h)
 
 -- What is asked of both ends
@@ -129,22 +129,22 @@ pub record OpeningRead (m : Memory) (a : Asked) : Type 0 where
   pub content : payloadOf (opening m a) ≡ take (sent m a) (a .offered)
 
 -- a listener that was started, a time that it takes, and room for the longest answer
-pub record Listens (l : Listener) (h : Heard) : Type 0 where
+pub record Listens (l : Listener) (h : Arrival) : Type 0 where
   pub started : l .home .started ≡ true
   pub timely : isUntimely (l .clock) (h .time) ≡ false
   pub room : 36 ≤ h .room
 
 -- a cookie that the listener issued for the address with this block: under its present key, or under the previous one if there is one
 pub data Issued (k : Keys) (b c : List ℕ) : Type 0 where
-  now : c ≡ cookieUnder (k .present) b → Issued k b c
-  before : k .rotated ≡ true → c ≡ cookieUnder (k .previous) b → Issued k b c
+  present : c ≡ cookieUnder (k .present) b → Issued k b c
+  previous : k .rotated ≡ true → c ≡ cookieUnder (k .previous) b → Issued k b c
 
 -- What the client reads
 
 -- the listener's call is done and the client's name is new to it; its initial number is such as the call's type allows
-pub record Taken (m : Memory) (l : Listener) (a : Asked) (h : Heard) : Type 0 where
-  pub clear : listener-checks.judged l (hearing m a h) ≡ Clear
-  pub new : known (viewOf l (hearing m a h)) ≡ false
+pub record Taken (m : Memory) (l : Listener) (a : Asked) (h : Arrival) : Type 0 where
+  pub clear : listener-checks.judged l (arriving m a h) ≡ Clear
+  pub new : known (viewOf l (arriving m a h)) ≡ false
   pub iss : h .iss < 2 ^ 32
 
 -- the client's memory when the answer comes, whatever came between: started, of the same family, and at a time that it takes
@@ -154,35 +154,37 @@ pub record Later (m m′ : Memory) (t : ℕ) : Type 0 where
   pub timely : isUntimely (m′ .clock) t ≡ false
 
 -- the answer has a fresh cookie
-abbrev pub renewed : Memory → Listener → Asked → Heard → Bool
-renewed m l a h = isFresh (viewOf l (hearing m a h)) (block (a .own)) (opening m a)
+abbrev pub renewed : Memory → Listener → Asked → Arrival → Bool
+renewed m l a h = isFresh (viewOf l (arriving m a h)) (block (a .own)) (opening m a)
 
 -- the cookie that the listener now issues for the client
 abbrev pub current : Listener → Asked → List ℕ
 current l a = cookieUnder (l .keys .present) (block (a .own))
 
 -- the client takes it, with the count that the listener accepted, its MSS and, if there is one, its fresh cookie, which is then the stored one
-pub record AnswerRead (m : Memory) (l : Listener) (a : Asked) (h : Heard) (m′ : Memory) (t : ℕ) : Type 0 where
+pub record AnswerRead (m : Memory) (l : Listener) (a : Asked) (h : Arrival) (m′ : Memory) (t : ℕ) : Type 0 where
   pub event : client.step m′ (returning m l a h t) .event ≡ Answered (accepted m l a h)
   pub mss : optionsOf (reply m l a h) .mss ≡ Given (l .settings .mss)
   pub cookie : cookieIn (reply m l a h) ≡ cond (renewed m l a h) (current l a) []
   pub kept : renewed m l a h ≡ true → stored (client.step m′ (returning m l a h t) .memory) a ≡ current l a
+  pub size : storedFor (client.step m′ (returning m l a h t) .memory) (a .server) .mss ≡ Given (l .settings .mss)
 
--- Two visits: the first gets a cookie, and with that cookie the data of a later one is there in one round trip.
+-- Two openings of a kind: a request gets a cookie, and with a cookie that was issued the data is handed over at once.
 
 -- Fast Open is on, pending is below the limit, a place is free, the name is new, and the server is not banned
-pub record Welcome (m : Memory) (l : Listener) (a : Asked) (h : Heard) : Type 0 where
+pub record Admits (m : Memory) (l : Listener) (a : Asked) (h : Arrival) : Type 0 where
   pub listens : Listens l h
   pub on : l .settings .on ≡ true
   pub below : pendingAt (h .time) (l .slots) < l .settings .limit
   pub place : freePlace (h .time) (l .slots) < 64
-  pub new : known (viewOf l (hearing m a h)) ≡ false
+  pub new : known (viewOf l (arriving m a h)) ≡ false
   pub iss : h .iss < 2 ^ 32
   pub free : isBanned m a ≡ false
 
--- no data goes with a request, and the client has the cookie then
-pub record FirstVisit (m : Memory) (l : Listener) (a : Asked) (h : Heard) (m′ : Memory) (t : ℕ) : Type 0 where
-  pub event : listener.step l (hearing m a h) .event ≡ events.Regular
+-- no data goes with it, and the client has the cookie then
+pub record CookieRequest (m : Memory) (l : Listener) (a : Asked) (h : Arrival) (m′ : Memory) (t : ℕ) : Type 0 where
+  pub none : sent m a ≡ 0
+  pub event : listener.step l (arriving m a h) .event ≡ events.Regular
   pub answered : client.step m′ (returning m l a h t) .event ≡ Answered 0
   pub kept : stored (client.step m′ (returning m l a h t) .memory) a ≡ current l a
 
@@ -191,9 +193,9 @@ abbrev pub upToRoom : Memory → Listener → Asked → ℕ
 upToRoom m l a = min (sent m a) (l .settings .room)
 
 -- the listener hands over the data at once, and the client learns how much of it
-pub record EarlyData (m : Memory) (l : Listener) (a : Asked) (h : Heard) (m′ : Memory) (t : ℕ) : Type 0 where
-  pub event : listener.step l (hearing m a h) .event ≡ events.FastOpen (upToRoom m l a)
-  pub part : acceptedPart (opening m a) (listener.step l (hearing m a h) .event) ≡ take (upToRoom m l a) (a .offered)
+pub record EarlyData (m : Memory) (l : Listener) (a : Asked) (h : Arrival) (m′ : Memory) (t : ℕ) : Type 0 where
+  pub event : listener.step l (arriving m a h) .event ≡ events.FastOpen (upToRoom m l a)
+  pub part : acceptedPart (opening m a) (listener.step l (arriving m a h) .event) ≡ take (upToRoom m l a) (a .offered)
   pub answered : client.step m′ (returning m l a h t) .event ≡ Answered (upToRoom m l a)
 
 -- All of it
@@ -202,12 +204,12 @@ pub record Handshake (m : Memory) (l : Listener) (a : Asked) : Type 0 where
   -- the listener reads the opening as the client meant it
   pub opened : OpeningRead m a
   -- and has no refusal for it but those of an opening, 7 and 8
-  pub heard : (h : Heard) → Listens l h → refusal (wireChecks (l .home) (isUntimely (l .clock) (h .time)) (a .own) (opening m a) (h .room)) ≡ Clear
+  pub judged-by-kind : (h : Arrival) → Listens l h → listener-checks.judged l (arriving m a h) ≡ refusal (kindChecks (viewOf l (arriving m a h)) (fieldsOf (opening m a)) Syn)
   -- a cookie that it issued is right
-  pub trusted : isBanned m a ≡ false → Issued (l .keys) (block (a .own)) (stored m a) → right (l .keys) (block (a .own)) (carriedBy (opening m a)) ≡ true
+  pub right-cookie : isBanned m a ≡ false → Issued (l .keys) (block (a .own)) (stored m a) → right (l .keys) (block (a .own)) (carriedBy (opening m a)) ≡ true
   -- the client reads the answer as the listener meant it
-  pub answered : (h : Heard) → Taken m l a h → (m′ : Memory) (t : ℕ) → Later m m′ t → AnswerRead m l a h m′ t
+  pub answered : (h : Arrival) → Taken m l a h → (m′ : Memory) (t : ℕ) → Later m m′ t → AnswerRead m l a h m′ t
   -- without a cookie, and with one that was issued
-  pub first : (h : Heard) → Welcome m l a h → stored m a ≡ [] → (m′ : Memory) (t : ℕ) → Later m m′ t → FirstVisit m l a h m′ t
-  pub early : (h : Heard) → Welcome m l a h → Issued (l .keys) (block (a .own)) (stored m a) → (m′ : Memory) (t : ℕ) → Later m m′ t
+  pub requested : (h : Arrival) → Admits m l a h → stored m a ≡ [] → (m′ : Memory) (t : ℕ) → Later m m′ t → CookieRequest m l a h m′ t
+  pub early : (h : Arrival) → Admits m l a h → Issued (l .keys) (block (a .own)) (stored m a) → (m′ : Memory) (t : ℕ) → Later m m′ t
       → EarlyData m l a h m′ t

@@ -1,6 +1,6 @@
 -- When a cookie is right, as an equation with FIPS 197's definition: the listener and the journal share it. And its bytes one by one. Assumes nothing.
 use Prim.Native.Nat.{ℕ, _≤_}
-use mathlib.Core.Path.{_≡_, refl, ap, subst}
+use mathlib.Core.Path.{_≡_, refl, ap}
 use mathlib.Core.Bool.{true, false≢true, or-true}
 use mathlib.Core.List.{List, [], _∷_}
 use native.Mathlib.Omega.{arith}
@@ -12,7 +12,7 @@ use Rattle.cipher.proofs.Bounds.{cipher-byte}
 use Rattle.segment.specs.Bytes.{Bytes}
 use Rattle.segment.specs.Header.{optionArea}
 use Rattle.segment.specs.Options.{optionsOf}
-use Rattle.segment.proofs.ByteLists.{each-byte}
+use Rattle.segment.proofs.ByteLists.{bytes-take, bytes-of, each-byte}
 use Rattle.endpoint.proofs.Names.{same-bytes-eq, same-bytes-refl}
 use Rattle.listener.specs.Cookie.{Carried, nothing, request, cookie, cookieUnder, found, carriedBy, rightUnder, right}
 use Rattle.listener.specs.declared.state.Keys.{Keys}
@@ -78,6 +78,4 @@ first-eight w b = eight (cipher w b) (omega (arith, block-length w b))
 -- so a cookie is made of bytes, if the round keys are
 pub cookie-bytes : (w b : List ℕ) → Bytes w → Bytes (cookieUnder w b)
 unfolding cookieUnder
-cookie-bytes w b h =
-    let c = cipher-byte w b (each-byte w h) in
-    subst Bytes (first-eight w b) (c 0, (c 1, (c 2, (c 3, (c 4, (c 5, (c 6, (c 7, tt))))))))
+cookie-bytes w b h = bytes-take 8 (cipher w b) (bytes-of (cipher w b) (cipher-byte w b (each-byte w h)))

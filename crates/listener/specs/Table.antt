@@ -3,9 +3,10 @@
 use Prim.Native.Nat.{ℕ}
 use mathlib.Core.List.{List}
 use mathlib.Core.Bool.{Bool, true, false, not, _&&_}
-use lib.Dec.{ltb, eqb}
+use lib.Dec.{ltb}
 use lib.ListN.{replicate}
-use Rattle.endpoint.specs.Lists.{sameBytes, tally, firstIndex}
+use Rattle.endpoint.specs.Lists.{tally, firstIndex}
+use Rattle.endpoint.specs.Address.{sameName}
 use Rattle.listener.specs.declared.table.Status.{Status}
 use Rattle.listener.specs.declared.table.Status.the-variants.{Free, SynReceived, FastOpen, ResetHeld, Established}
 use Rattle.listener.specs.declared.table.Slot.{Slot}
@@ -77,7 +78,7 @@ withStatus s status = record { addr = s .addr; port = s .port; irs = s .irs; iss
 
 -- a connection of the peer with this block and port stands in the slot at the time
 unfoldable pub holdsPeer : ℕ → List ℕ → ℕ → Slot → Bool
-holdsPeer t b port s = isLive t (s .status) && (eqb (s .port) port && sameBytes (s .addr) b)
+holdsPeer t b port s = isLive t (s .status) && sameName (s .port) port (s .addr) b
 
 -- the lowest free place; the number of slots where there is none
 abbrev pub freePlace : ℕ → List Slot → ℕ

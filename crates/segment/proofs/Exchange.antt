@@ -29,11 +29,7 @@ can-write : (src dst : List ℕ) (f : Outgoing) (cookie payload : List ℕ) (roo
 unfolding canWrite
 can-write src dst f cookie payload room e s h r = rw (e, s, le-leb (lengthFor f cookie payload) 1520 h, le-leb (lengthFor f cookie payload) room r)
 
--- the options that a segment may have: no Fast Open option, a request, a cookie that was found in an area, and one of eight bytes
-pub allowed-none : (n : ℕ) → optionAllowed false n ≡ true
-unfolding optionAllowed
-allowed-none n = refl
-
+-- the options that a segment may have: a request, a cookie that was found in an area, and one of eight bytes
 pub allowed-request : (fast : Bool) → optionAllowed fast 0 ≡ true
 unfolding optionAllowed
 allowed-request false = refl

@@ -74,22 +74,22 @@ refused-applies (x ∷ rs) r cs e = go (refused-applies rs r cs) (applies cs x) 
         subst (λ (y : Refusal). applies cs y ≡ true) same q
     go more false q k = more k
 
--- only a call that is done answers 0
+-- a refusal's number is not 0, so only a call that is done answers 0
+pub positive : (r : Refusal) → numberOf r ≡ 0 → ⊥
+positive Format q = omega arith
+positive Address q = omega arith
+positive Checksum q = omega arith
+positive Port q = omega arith
+positive Time q = omega arith
+positive Flags q = omega arith
+positive NameInUse q = omega arith
+positive TableFull q = omega arith
+positive NoConnection q = omega arith
+positive Sequence q = omega arith
+positive Output q = omega arith
+positive Range q = omega arith
+positive NotStarted q = omega arith
+
 pub done-is-0 : (c : Check) → answered c ≡ 0 → c ≡ Clear
 done-is-0 Clear e = refl
 done-is-0 (Refused r) e = absurd (positive r e)
-  where
-    positive : (r : Refusal) → numberOf r ≡ 0 → ⊥
-    positive Format q = omega arith
-    positive Address q = omega arith
-    positive Checksum q = omega arith
-    positive Port q = omega arith
-    positive Time q = omega arith
-    positive Flags q = omega arith
-    positive NameInUse q = omega arith
-    positive TableFull q = omega arith
-    positive NoConnection q = omega arith
-    positive Sequence q = omega arith
-    positive Output q = omega arith
-    positive Range q = omega arith
-    positive NotStarted q = omega arith
