@@ -161,7 +161,7 @@ renewed m l a h = isFresh (viewOf l (arriving m a h)) (block (a .own)) (opening 
 abbrev pub current : Listener → Asked → List ℕ
 current l a = cookieUnder (l .keys .present) (block (a .own))
 
--- the client takes it, with the count that the listener accepted, its MSS and, if there is one, its fresh cookie, which is then the stored one
+-- the client takes it, with the count that the listener accepted, its MSS and, if there is one, its fresh cookie, and both are stored then
 pub record AnswerRead (m : Memory) (l : Listener) (a : Asked) (h : Arrival) (m′ : Memory) (t : ℕ) : Type 0 where
   pub event : client.step m′ (returning m l a h t) .event ≡ Answered (accepted m l a h)
   pub mss : optionsOf (reply m l a h) .mss ≡ Given (l .settings .mss)
@@ -169,7 +169,7 @@ pub record AnswerRead (m : Memory) (l : Listener) (a : Asked) (h : Arrival) (m�
   pub kept : renewed m l a h ≡ true → stored (client.step m′ (returning m l a h t) .memory) a ≡ current l a
   pub size : storedFor (client.step m′ (returning m l a h t) .memory) (a .server) .mss ≡ Given (l .settings .mss)
 
--- Two openings of a kind: a request gets a cookie, and with a cookie that was issued the data is handed over at once.
+-- Two kinds of opening: a request gets a cookie, and with a cookie that was issued the data is handed over at once.
 
 -- Fast Open is on, pending is below the limit, a place is free, the name is new, and the server is not banned
 pub record Admits (m : Memory) (l : Listener) (a : Asked) (h : Arrival) : Type 0 where
