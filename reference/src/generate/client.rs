@@ -1,0 +1,422 @@
+//! Scripts for the client's memory.
+
+use super::line::Line;
+use super::segment::{area_with, noise, wild_area, Plan, Sum};
+use super::Script;
+use crate::client::BAN_MS;
+use crate::script::ClientSession;
+use crate::wire::{self, ACK, FIN, LAST_TIME, RST, SYN};
+
+pub fn generate(seed: u64, calls: usize) -> Vec<u8> {
+    let mut maker = Maker::new(seed);
+    let mut turn = maker.script.rng.index(THEMES.len());
+    while maker.script.calls < calls {
+        maker.run(&THEMES[turn % THEMES.len()], calls);
+        turn += 1;
+    }
+    maker.script.finish()
+}
+
+/// What one memory's life is mostly about.
+struct Theme {
+    calls: usize,
+    servers: usize,
+    ports: usize,
+    /// Weights: open, answer, failed, noise, crowd.
+    actions: [u64; 5],
+    /// Percent of answers that acknowledge none of the data sent.
+    ignored: u64,
+    damage: u64,
+    step: u64,
+    /// Percent of times about the end of a ban.
+    ban_ends: u64,
+    near_last_time: bool,
+}
+
+#[rustfmt::skip]
+const THEMES: [Theme; 6] = [
+    // few servers, everything
+    Theme { calls: 250, servers: 4, ports: 2, actions: [40, 50, 3, 3, 0], ignored: 8, damage: 20, step: 50_000, ban_ends: 10, near_last_time: false },
+    // more servers than are remembered
+    Theme { calls: 420, servers: 36, ports: 1, actions: [40, 56, 1, 1, 0], ignored: 1, damage: 12, step: 1000, ban_ends: 2, near_last_time: false },
+    // more bans than are remembered, often in the same millisecond
+    Theme { calls: 320, servers: 9, ports: 5, actions: [120, 80, 60, 3, 9], ignored: 60, damage: 12, step: 1, ban_ends: 0, near_last_time: false },
+    // bans that end
+    Theme { calls: 260, servers: 5, ports: 3, actions: [104, 52, 40, 2, 1], ignored: 25, damage: 14, step: 90_000, ban_ends: 35, near_last_time: false },
+    // hostile
+    Theme { calls: 220, servers: 3, ports: 2, actions: [22, 55, 5, 16, 0], ignored: 10, damage: 50, step: 10_000, ban_ends: 5, near_last_time: false },
+    // the end of time
+    Theme { calls: 120, servers: 5, ports: 2, actions: [40, 40, 15, 2, 0], ignored: 20, damage: 18, step: 90_000, ban_ends: 10, near_last_time: true },
+];
+
+struct Maker {
+    script: Script<ClientSession>,
+    family: usize,
+    own: Vec<u8>,
+    servers: Vec<Vec<u8>>,
+    first_port: u16,
+}
+
+impl Maker {
+    fn new(seed: u64) -> Maker {
+        Maker {
+            script: Script::new(seed, ClientSession::new()),
+            family: 4,
+            own: vec![192, 0, 2, 1],
+            servers: Vec::new(),
+            first_port: 443,
+        }
+    }
+
+    fn run(&mut self, theme: &Theme, most: usize) {
+        let fresh = self.script.calls == 0;
+        let rng = &mut self.script.rng;
+        self.family = rng.pick(&[4, 16]);
+        self.own = rng.bytes(self.family);
+        self.servers = (0..theme.servers).map(|_| rng.bytes(self.family)).collect();
+        // Halves swapped: the same pseudo-header sum for another name.
+        let mut swapped = self.servers[0].clone();
+        swapped.rotate_left(2);
+        self.servers.push(swapped);
+        let mut next = self.servers[0].clone();
+        next[self.family - 1] ^= 1;
+        self.servers.push(next);
+        self.first_port = rng.pick(&[443, 0, 65_530]);
+        if fresh || rng.percent(75) {
+            if !fresh || rng.percent(50) {
+                let family = rng.pick(&[0, 1, 3, 5, 6, 15, 17, 32, 260, 272, (1 << 32) + 4, u64::MAX]);
+                self.script.call(&Line::new("start").u64(family));
+            }
+            for _ in 0..self.script.rng.within(4, 8) {
+                self.act(theme);
+            }
+        }
+        self.script.call(&Line::new("start").u64(self.family as u64));
+        if theme.near_last_time {
+            let before = self.script.rng.pick(&[0, 1, 1000, BAN_MS - 1, BAN_MS, BAN_MS + 1]);
+            let server = self.server();
+            self.script.call(&Line::new("failed").u64(LAST_TIME - before).bytes(&server).u16(1));
+        }
+        let end = self.script.calls + theme.calls;
+        while self.script.calls < end.min(most) {
+            self.act(theme);
+        }
+    }
+
+    fn act(&mut self, theme: &Theme) {
+        let before = self.clock();
+        self.act_once(theme);
+        let after = self.clock();
+        if after > before && self.script.rng.percent(4) {
+            // the call's time must have become the clock
+            let server = self.server();
+            self.script.call(&Line::new("failed").u64(after - 1).bytes(&server).u16(9));
+        }
+    }
+
+    fn act_once(&mut self, theme: &Theme) {
+        match self.script.rng.weighted(&theme.actions) {
+            0 => self.open(theme),
+            1 => self.answer(theme),
+            2 => self.failed(theme),
+            3 => self.noise(theme),
+            _ => self.crowd(theme),
+        }
+    }
+
+    fn clock(&self) -> u64 {
+        self.script.session.client.memory().map_or(0, |memory| memory.clock())
+    }
+
+    fn time(&mut self, theme: &Theme) -> u64 {
+        let clock = self.clock();
+        let memory = self.script.session.client.memory();
+        let ends: Vec<u64> = memory
+            .map(|memory| memory.bans().map(|ban| ban.until).filter(|&end| end > clock).collect())
+            .unwrap_or_default();
+        let rng = &mut self.script.rng;
+        let time = if !ends.is_empty() && rng.percent(theme.ban_ends) {
+            // mostly the first end, so that the others stay to be met
+            let first = ends.iter().min().copied().unwrap_or(clock);
+            let end = if rng.percent(80) { first } else { rng.pick(&ends) };
+            end + rng.below(3) - 1
+        } else if rng.percent(50) {
+            clock
+        } else {
+            clock + rng.below(theme.step + 1)
+        };
+        if theme.near_last_time && rng.below(30) == 0 {
+            return LAST_TIME;
+        }
+        time.clamp(clock, LAST_TIME)
+    }
+
+    fn bad_time(&mut self) -> u64 {
+        let clock = self.clock();
+        let rng = &mut self.script.rng;
+        let late = rng.pick(&[LAST_TIME + 1, LAST_TIME + 2, 1 << 49, u64::MAX - 1, u64::MAX]);
+        match clock {
+            0 => late,
+            _ => rng.pick(&[clock - 1, clock - 1, 0, clock / 2, late]),
+        }
+    }
+
+    fn bad_address(&mut self) -> Vec<u8> {
+        let mut bad = self.server();
+        let rng = &mut self.script.rng;
+        match rng.below(5) {
+            0 | 1 => bad.resize(20 - self.family, 0),
+            2 | 3 => bad.resize(rng.pick(&[0, 1, 3, 5, 8, 15, 17, 32]), 0),
+            _ => {}
+        }
+        bad
+    }
+
+    /// A server, more often one about to be forgotten or just forgotten.
+    fn server(&mut self) -> Vec<u8> {
+        let memory = self.script.session.client.memory();
+        let known: Vec<Vec<u8>> =
+            memory.map(|m| m.servers().map(<[u8]>::to_vec).collect()).unwrap_or_default();
+        if known.len() >= 31 {
+            match self.script.rng.below(10) {
+                0..=2 => return self.script.rng.pick(&known[..3]),
+                3 => {
+                    let unknown: Vec<_> =
+                        self.servers.iter().filter(|s| !known.contains(s)).cloned().collect();
+                    if !unknown.is_empty() {
+                        return self.script.rng.pick(&unknown);
+                    }
+                }
+                _ => {}
+            }
+        }
+        self.script.rng.pick(&self.servers)
+    }
+
+    /// A server to open to, more often one that is banned now.
+    fn target(&mut self, theme: &Theme) -> (Vec<u8>, u16) {
+        let clock = self.clock();
+        let memory = self.script.session.client.memory();
+        let banned: Vec<_> = memory
+            .map(|m| m.bans().filter(|b| b.until > clock).map(|b| (b.address.clone(), b.port)).collect())
+            .unwrap_or_default();
+        let port = self.first_port.wrapping_add(self.script.rng.index(theme.ports) as u16);
+        if !banned.is_empty() && self.script.rng.percent(25) {
+            let (address, banned_port) = self.script.rng.pick(&banned);
+            // the very name, or its address with another port
+            return (address, if self.script.rng.percent(75) { banned_port } else { port });
+        }
+        (self.server(), port)
+    }
+
+    fn open(&mut self, theme: &Theme) {
+        let (mut server, port) = self.target(theme);
+        let mut own = self.own.clone();
+        let mut time = self.time(theme);
+        let rng = &mut self.script.rng;
+        let own_port = rng.next() as u16;
+        let ours = rng.sequence();
+        let mut mss: u32 = rng.pick(&[1460, 536, 537, 1459, 1220]);
+        let mut out = rng.pick(&[1504, 1504, 1504, 1505, 2048]);
+        let length = match rng.below(30) {
+            0 | 1 => rng.pick(&[1439, 1440, 1441, 1441, 1459, 1460, 1461, 1600]),
+            2..=4 => rng.pick(&[535, 536, 537, 1219, 1220, 1221]),
+            5..=8 => 0,
+            _ => rng.within(1, 40),
+        };
+        let data = rng.bytes(length as usize);
+        if rng.percent(theme.damage) {
+            for _ in 0..self.script.rng.pick(&[1, 1, 2, 3]) {
+                match self.script.rng.weighted(&[2, 2, 2, 5, 4]) {
+                    0 => time = self.bad_time(),
+                    1 => server = self.bad_address(),
+                    2 => own = self.bad_address(),
+                    3 => out = self.script.rng.pick(&[0, 36, 1503, 1503]),
+                    _ => mss = self.script.rng.pick(&[0, 535, 1461, 65_536 + 1000, u32::MAX]),
+                }
+            }
+        }
+        let line = Line::new("open")
+            .u64(time)
+            .bytes(&own)
+            .u16(own_port)
+            .bytes(&server)
+            .u16(port)
+            .u32(ours)
+            .u32(mss)
+            .out(out)
+            .bytes(&data);
+        self.script.call(&line);
+    }
+
+    /// What a server's answer carries: often a cookie, a size, or both.
+    fn options(&mut self) -> Vec<u8> {
+        let rng = &mut self.script.rng;
+        let length = rng.pick(&[4, 6, 8, 8, 8, 10, 12, 14, 16]);
+        let cookie = rng.bytes(length);
+        if rng.percent(12) {
+            return wild_area(rng, &cookie);
+        }
+        let mut wanted = Vec::new();
+        if rng.percent(45) {
+            let any = rng.next() as u16;
+            let mss = rng.pick(&[1460, 1460, 536, 0, 1, 20, 1440, 1441, 1461, 65_535, any]);
+            wanted.push(wire::mss_option(mss).to_vec());
+        }
+        if rng.percent(65) {
+            wanted.push([&[wire::FAST_OPEN, 2 + cookie.len() as u8][..], &cookie].concat());
+        } else if rng.percent(15) {
+            // nothing to store
+            return area_with(rng, &[vec![wire::FAST_OPEN, 2]]);
+        } else if rng.percent(25) {
+            // an empty one stands first and is the one used
+            wanted.push(vec![wire::FAST_OPEN, 2]);
+            wanted.push([&[wire::FAST_OPEN, 2 + cookie.len() as u8][..], &cookie].concat());
+        }
+        if rng.percent(15) {
+            wanted.reverse();
+        }
+        area_with(rng, &wanted)
+    }
+
+    fn answer(&mut self, theme: &Theme) {
+        let (server, port) = self.target(theme);
+        let options = self.options();
+        let mut time = self.time(theme);
+        let (mut given_own, mut given_server) = (self.own.clone(), server.clone());
+        let rng = &mut self.script.rng;
+        let own_port = rng.next() as u16;
+        let ours = rng.sequence();
+        let mut sent: u32 = rng.pick(&[0, 0, 1, 2, 30, 536, 1459, 1460, 1460]);
+        let acknowledged = match rng.below(20) {
+            _ if rng.percent(theme.ignored) => 0,
+            0..=9 => sent,
+            10..=15 => rng.within(0, sent.into()) as u32,
+            16 => sent.wrapping_add(1),
+            17 => u32::MAX,
+            18 => sent.saturating_sub(1),
+            _ => rng.pick(&[u32::MAX - 1, 1 << 31, 1461, 65_536, 0]),
+        };
+        let mut plan = Plan {
+            source: server,
+            destination: self.own.clone(),
+            source_port: port,
+            destination_port: own_port,
+            sequence: rng.sequence(),
+            acknowledgement: ours.wrapping_add(1).wrapping_add(acknowledged),
+            flags: SYN | ACK,
+            window: 65_535,
+            urgent: 0,
+            options,
+            payload: if rng.percent(10) { rng.payload() } else { Vec::new() },
+            reserved: 0,
+            offset: None,
+            length: None,
+            sum: Sum::Right,
+        };
+        plan.decorate(rng);
+        let mut given_port = port;
+        let mut given_own_port = own_port;
+        if rng.percent(theme.damage) {
+            for _ in 0..self.script.rng.pick(&[1, 1, 1, 2, 2, 3, 4]) {
+                match self.script.rng.weighted(&[8, 6, 6, 6, 6, 12, 20, 50]) {
+                    0 => time = self.bad_time(),
+                    1 => given_own = self.bad_address(),
+                    2 => given_server = self.bad_address(),
+                    3 => given_port ^= 1,
+                    4 => given_own_port ^= 0x100,
+                    5 => sent = self.script.rng.pick(&[1461, 1461, 1462, 65_536, u32::MAX]),
+                    6 => {
+                        plan.flags =
+                            self.script.rng.pick(&[SYN, ACK, SYN | ACK | RST, SYN | ACK | FIN, 0, RST | ACK])
+                    }
+                    _ => plan.damage(&mut self.script.rng),
+                }
+            }
+        }
+        let line = Line::new("answer")
+            .u64(time)
+            .bytes(&given_own)
+            .u16(given_own_port)
+            .bytes(&given_server)
+            .u16(given_port)
+            .u32(ours)
+            .u32(sent)
+            .bytes(&plan.encode());
+        self.script.call(&line);
+    }
+
+    fn failed(&mut self, theme: &Theme) {
+        let (mut server, port) = self.target(theme);
+        let mut time = self.time(theme);
+        if self.script.rng.percent(theme.damage) {
+            match self.script.rng.below(3) {
+                0 => time = self.bad_time(),
+                1 => server = self.bad_address(),
+                _ => {
+                    time = self.bad_time();
+                    server = self.bad_address();
+                }
+            }
+        }
+        self.script.call(&Line::new("failed").u64(time).bytes(&server).u16(port));
+    }
+
+    /// More bans than there are places, most of them ending together; then a look at who
+    /// is left. Names come in any order, so that places and ends don't go together.
+    fn crowd(&mut self, theme: &Theme) {
+        let mut names: Vec<(Vec<u8>, u16)> = Vec::new();
+        for port in 0..theme.ports.max(4) as u16 {
+            names.extend(self.servers.iter().map(|s| (s.clone(), self.first_port.wrapping_add(port))));
+        }
+        for last in (1..names.len()).rev() {
+            names.swap(last, self.script.rng.index(last + 1));
+        }
+        let mut time = self.clock();
+        if self.script.rng.percent(50) {
+            // when part of the last crowd has ended
+            let memory = self.script.session.client.memory();
+            let ends: Vec<u64> = memory.map(|m| m.bans().map(|b| b.until).collect()).unwrap_or_default();
+            if !ends.is_empty() {
+                time = self.script.rng.pick(&ends).max(time);
+            }
+        }
+        let many = self.script.rng.within(33, 37) as usize;
+        for (address, port) in names.iter().take(many) {
+            time = (time + self.script.rng.pick(&[0, 0, 0, 0, 0, 0, 1])).min(LAST_TIME);
+            self.script.call(&Line::new("failed").u64(time).bytes(address).u16(*port));
+        }
+        for (address, port) in names.iter().take(many).step_by(2) {
+            let line = Line::new("open")
+                .u64(time)
+                .bytes(&self.own)
+                .u16(1)
+                .bytes(address)
+                .u16(*port)
+                .u32(1)
+                .u32(536)
+                .out(1504)
+                .bytes(&[1]);
+            self.script.call(&line);
+        }
+    }
+
+    fn noise(&mut self, theme: &Theme) {
+        let time = self.time(theme);
+        let server = self.server();
+        let rng = &mut self.script.rng;
+        let ours = rng.sequence();
+        let sent = rng.below(1500) as u32;
+        let bytes = noise(rng, &server, &self.own, 80);
+        let line = Line::new("answer")
+            .u64(time)
+            .bytes(&self.own)
+            .u16(80)
+            .bytes(&server)
+            .u16(self.first_port)
+            .u32(ours)
+            .u32(sent)
+            .bytes(&bytes);
+        self.script.call(&line);
+    }
+}

@@ -1,0 +1,670 @@
+//! Scripts for the listener.
+
+use super::line::Line;
+use super::segment::{area_with, noise, wild_area, Plan, Sum, NUDGES};
+use super::Script;
+use crate::aes::Schedule;
+use crate::listener::{cookie, Settings, Slot, Status};
+use crate::script::ListenerSession;
+use crate::wire::{self, ACK, FIN, LAST_TIME, RST, SYN};
+
+pub fn generate(seed: u64, calls: usize) -> Vec<u8> {
+    let mut maker = Maker::new(seed);
+    let mut turn = maker.script.rng.index(THEMES.len());
+    while maker.script.calls < calls {
+        maker.run(&THEMES[turn % THEMES.len()], calls);
+        turn += 1;
+    }
+    maker.script.finish()
+}
+
+/// What one listener's life is mostly about.
+struct Theme {
+    calls: usize,
+    addresses: usize,
+    ports: u64,
+    limits: &'static [u32],
+    holds: &'static [u32],
+    /// Percent of calls that are damaged.
+    damage: u64,
+    /// Weight of right cookies among openings; all else weighs 60.
+    right: u64,
+    /// Weights of the actions, in the order of `Maker::act_once`.
+    actions: [u64; 13],
+    /// The usual longest step in time, and a rare longer one.
+    step: u64,
+    leap: u64,
+    near_last_time: bool,
+    /// Begins with as many early connections as there are slots, or almost.
+    brim: bool,
+}
+
+#[rustfmt::skip]
+//                     open again compl reset aband resend close settings key noise kinds twins hold
+const THEMES: [Theme; 7] = [
+    // a bit of everything
+    Theme {
+        calls: 300, addresses: 5, ports: 12, limits: &[3, 8, 16, 64], holds: &[0, 100, 1000, 65_535], damage: 18, right: 60,
+        actions: [30, 12, 16, 10, 5, 6, 9, 3, 2, 3, 3, 2, 5], step: 20, leap: 3000, near_last_time: false, brim: false,
+    },
+    // a full table
+    Theme {
+        calls: 330, addresses: 6, ports: 60, limits: &[40, 63, 63, 64, 64], holds: &[50, 65_535], damage: 10, right: 400,
+        actions: [44, 12, 12, 8, 4, 8, 9, 1, 1, 1, 1, 2, 3], step: 3, leap: 60, near_last_time: false, brim: true,
+    },
+    // resets and their holds
+    Theme {
+        calls: 300, addresses: 3, ports: 8, limits: &[2, 3, 5, 10], holds: &[0, 1, 2, 10, 40], damage: 12, right: 120,
+        actions: [36, 9, 6, 24, 5, 4, 4, 5, 1, 1, 1, 1, 12], step: 6, leap: 50, near_last_time: false, brim: false,
+    },
+    // keys that turn
+    Theme {
+        calls: 260, addresses: 2, ports: 30, limits: &[20, 64], holds: &[0, 5], damage: 12, right: 40,
+        actions: [42, 4, 12, 8, 8, 3, 10, 2, 14, 1, 1, 1, 3], step: 9, leap: 90, near_last_time: false, brim: false,
+    },
+    // pending about the limit
+    Theme {
+        calls: 260, addresses: 3, ports: 10, limits: &[0, 1, 2, 3], holds: &[0, 30, 300], damage: 12, right: 120,
+        actions: [36, 8, 10, 12, 8, 4, 8, 9, 2, 1, 1, 2, 5], step: 10, leap: 300, near_last_time: false, brim: false,
+    },
+    // the end of time
+    Theme {
+        calls: 170, addresses: 3, ports: 9, limits: &[4, 64], holds: &[10, 1000, 65_535], damage: 20, right: 100,
+        actions: [34, 8, 10, 18, 4, 4, 6, 3, 2, 1, 1, 2, 5], step: 500, leap: 20_000, near_last_time: true, brim: false,
+    },
+    // hostile
+    Theme {
+        calls: 260, addresses: 4, ports: 6, limits: &[2, 8, 64], holds: &[0, 7, 700], damage: 36, right: 60,
+        actions: [24, 10, 12, 10, 5, 5, 6, 4, 3, 12, 12, 2, 4], step: 8, leap: 500, near_last_time: false, brim: false,
+    },
+];
+
+struct Maker {
+    script: Script<ListenerSession>,
+    own: Vec<u8>,
+    port: u16,
+    family: usize,
+    addresses: Vec<Vec<u8>>,
+    /// Every key this listener had, the present one last.
+    keys: Vec<[u8; 16]>,
+    first_port: u16,
+    /// A time the next call is to have, if it isn't past.
+    meeting: Option<u64>,
+}
+
+impl Maker {
+    fn new(seed: u64) -> Maker {
+        Maker {
+            script: Script::new(seed, ListenerSession::new()),
+            own: vec![192, 0, 2, 2],
+            port: 443,
+            family: 4,
+            addresses: vec![vec![192, 0, 2, 1]],
+            keys: vec![[7; 16]],
+            first_port: 40_000,
+            meeting: None,
+        }
+    }
+
+    /// One listener from before its start to its last call.
+    fn run(&mut self, theme: &Theme, most: usize) {
+        self.set_scene(theme);
+        let fresh = self.script.calls == 0;
+        if fresh || self.script.rng.percent(75) {
+            if !fresh || self.script.rng.percent(50) {
+                self.refused_start();
+            }
+            for _ in 0..self.script.rng.within(2, 6) {
+                self.act(theme);
+            }
+        }
+        self.start();
+        if theme.brim || !self.script.rng.percent(10) {
+            if theme.near_last_time {
+                let before = self.script.rng.pick(&[0, 1, 100, 60_000, 66_000]);
+                self.settings(theme, Some(LAST_TIME - before));
+            } else {
+                self.settings(theme, Some(0));
+            }
+        }
+        if theme.brim {
+            self.fill();
+        }
+        let end = self.script.calls + theme.calls;
+        while self.script.calls < end.min(most) {
+            self.act(theme);
+        }
+        if self.script.rng.percent(25) {
+            // the clock's last place, from which no later call moves it
+            for _ in 0..4 {
+                self.settings(theme, Some(LAST_TIME));
+                self.act(theme);
+            }
+        }
+    }
+
+    fn fill(&mut self) {
+        let source = self.addresses[0].clone();
+        let time = self.clock();
+        for port in 0..self.script.rng.within(62, 65) as u16 {
+            let mut plan = self.plan(&source, port);
+            plan.options = [&[wire::FAST_OPEN, 10][..], &cookie(&self.keys[0], &source), &[1, 1]].concat();
+            plan.sequence = self.script.rng.sequence();
+            plan.payload = vec![port as u8];
+            let line =
+                Line::new("segment").u64(time).bytes(&source).u32(port.into()).out(36).bytes(&plan.encode());
+            self.script.call(&line);
+        }
+    }
+
+    fn set_scene(&mut self, theme: &Theme) {
+        let rng = &mut self.script.rng;
+        self.family = rng.pick(&[4, 4, 16]);
+        self.own = rng.bytes(self.family);
+        self.port = rng.pick(&[443, 0, 65_535, 80]);
+        self.first_port = rng.pick(&[0, 1000, 40_000, 65_400]);
+        self.keys = vec![rng.next().to_be_bytes().repeat(2).try_into().unwrap_or([0; 16])];
+        self.addresses = (0..theme.addresses).map(|_| rng.bytes(self.family)).collect();
+        // Halves swapped: the same pseudo-header sum for another name.
+        let mut swapped = self.addresses[0].clone();
+        swapped.rotate_left(2);
+        self.addresses.push(swapped);
+        // One bit away at the very end, and our own address.
+        let mut next = self.addresses[0].clone();
+        next[self.family - 1] ^= 1;
+        self.addresses.push(next);
+        self.addresses.push(self.own.clone());
+    }
+
+    fn start(&mut self) {
+        let line = Line::new("start").bytes(&self.own).u16(self.port).bytes(&self.keys[0]);
+        self.script.call(&line);
+    }
+
+    fn refused_start(&mut self) {
+        let mut own = self.own.clone();
+        let mut key = self.keys[0].to_vec();
+        let rng = &mut self.script.rng;
+        if rng.percent(50) {
+            own.resize(rng.pick(&[0, 1, 3, 5, 8, 15, 17, 32]), 9);
+        }
+        if own.len() == self.family || rng.percent(30) {
+            key.resize(rng.pick(&[0, 1, 15, 17, 24, 32]), 9);
+        }
+        let line = Line::new("start").bytes(&own).u16(self.port).bytes(&key);
+        self.script.call(&line);
+    }
+
+    fn act(&mut self, theme: &Theme) {
+        let before = self.clock();
+        self.act_once(theme);
+        let after = self.clock();
+        if after > before && self.script.rng.percent(6) {
+            // the call's time must have become the clock
+            let line = Line::new("key").u64(after - 1).bytes(&[7; 16]);
+            self.script.call(&line);
+        }
+    }
+
+    fn act_once(&mut self, theme: &Theme) {
+        match self.script.rng.weighted(&theme.actions) {
+            0 => self.open(theme),
+            1 => self.open_again(theme),
+            2 => self.complete(theme),
+            3 => self.reset(theme),
+            4 => self.by_name(theme, "abandon"),
+            5 => self.by_name(theme, "resend"),
+            6 => self.by_name(theme, "close"),
+            7 => self.settings(theme, None),
+            8 => self.key(theme),
+            9 => self.noise(theme),
+            10 => self.kinds(theme),
+            11 => self.twins(theme),
+            _ => self.hold(theme),
+        }
+    }
+
+    fn clock(&self) -> u64 {
+        self.script.session.listener.front().map_or(0, |front| front.clock())
+    }
+
+    fn slots(&self, wanted: impl Fn(&Slot) -> bool) -> Vec<Slot> {
+        let slots = self.script.session.listener.front().map_or(&[][..], |front| front.slots());
+        slots.iter().filter(|slot| wanted(slot)).copied().collect()
+    }
+
+    fn some_slot(&mut self, wanted: impl Fn(&Slot) -> bool) -> Option<Slot> {
+        let slots = self.slots(wanted);
+        (!slots.is_empty()).then(|| self.script.rng.pick(&slots))
+    }
+
+    fn time(&mut self, theme: &Theme) -> u64 {
+        let clock = self.clock();
+        if let Some(meeting) = self.meeting.take() {
+            return meeting.clamp(clock, LAST_TIME);
+        }
+        let ends: Vec<u64> = self
+            .slots(|_| true)
+            .iter()
+            .filter_map(|slot| match slot.status {
+                Status::Held { until } if until > clock => Some(until),
+                _ => None,
+            })
+            .collect();
+        let rng = &mut self.script.rng;
+        let time = match rng.below(20) {
+            0..=8 => clock,
+            9..=15 => clock + rng.below(theme.step + 1),
+            16 => clock + rng.below(theme.leap + 1),
+            _ if ends.is_empty() => clock,
+            _ => rng.pick(&ends) + rng.below(3) - 1,
+        };
+        if theme.near_last_time && rng.below(25) == 0 {
+            return LAST_TIME;
+        }
+        time.clamp(clock, LAST_TIME)
+    }
+
+    fn bad_time(&mut self) -> u64 {
+        let clock = self.clock();
+        let rng = &mut self.script.rng;
+        let late = rng.pick(&[LAST_TIME + 1, LAST_TIME + 2, 1 << 49, u64::MAX - 1, u64::MAX]);
+        match clock {
+            0 => late,
+            _ => rng.pick(&[clock - 1, clock - 1, 0, clock / 2, late]),
+        }
+    }
+
+    /// Another address than the one meant: of a wrong length, or another's.
+    fn bad_address(&mut self) -> Vec<u8> {
+        let address = self.address();
+        let rng = &mut self.script.rng;
+        let mut bad = address.clone();
+        match rng.below(6) {
+            0 | 1 => bad.resize(20 - self.family, 0),
+            2 => bad = rng.bytes(20 - self.family),
+            3 | 4 => bad.resize(rng.pick(&[0, 1, 3, 5, 8, 15, 17, 32]), 0),
+            _ => {}
+        }
+        bad
+    }
+
+    fn address(&mut self) -> Vec<u8> {
+        self.script.rng.pick(&self.addresses)
+    }
+
+    fn some_port(&mut self, theme: &Theme) -> u16 {
+        self.first_port.wrapping_add(self.script.rng.below(theme.ports) as u16)
+    }
+
+    fn plan(&self, source: &[u8], port: u16) -> Plan {
+        Plan {
+            source: source.to_vec(),
+            destination: self.own.clone(),
+            source_port: port,
+            destination_port: self.port,
+            sequence: 0,
+            acknowledgement: 0,
+            flags: SYN,
+            window: 65_535,
+            urgent: 0,
+            options: Vec::new(),
+            payload: Vec::new(),
+            reserved: 0,
+            offset: None,
+            length: None,
+            sum: Sum::Right,
+        }
+    }
+
+    /// Options for an opening from an address, mostly with a cookie of some worth.
+    fn options(&mut self, theme: &Theme, source: &[u8]) -> Vec<u8> {
+        let other = self.address();
+        let present = *self.keys.last().unwrap_or(&[0; 16]);
+        let back = |steps: usize| self.keys.iter().rev().nth(steps).copied().unwrap_or(present);
+        let mut offered = cookie(&present, source).to_vec();
+        let rng = &mut self.script.rng;
+        match rng.weighted(&[theme.right, 14, 8, 10, 5, 4, 3, 5, 6, 8]) {
+            0 => {}
+            1 => offered = cookie(&back(1), source).to_vec(),
+            2 => offered = cookie(&back(2), source).to_vec(),
+            3 => offered.clear(),
+            4 => offered = rng.bytes(8),
+            5 => offered[rng.index(8)] ^= 1 << rng.below(8),
+            6 => offered = cookie(&present, &other).to_vec(),
+            7 => {
+                // the whole block's encryption, or less or more of it than a cookie
+                let mut block = [0; 16];
+                block[..source.len()].copy_from_slice(source);
+                offered = Schedule::expand(&present).encrypt(&block).to_vec();
+                offered.truncate(rng.pick(&[4, 6, 10, 12, 14, 16]));
+            }
+            8 => return area_with(rng, &[wire::mss_option(1460).to_vec()]),
+            _ => return wild_area(rng, &offered),
+        }
+        let mut fast_open = vec![wire::FAST_OPEN, 2 + offered.len() as u8];
+        fast_open.extend_from_slice(&offered);
+        let mut wanted = vec![wire::mss_option(rng.next() as u16).to_vec(), fast_open];
+        if rng.percent(20) {
+            wanted.swap(0, 1);
+        }
+        if rng.percent(5) {
+            // the list ends before it, or there is an option that can't be stepped over
+            let stop = rng.pick(&[vec![wire::END_OF_LIST], vec![5, 0], vec![5, 1], vec![8, 40]]);
+            wanted.insert(0, stop);
+        }
+        if rng.percent(8) {
+            // a second one, which must not matter
+            let second = rng.bytes(8);
+            wanted.push([&[wire::FAST_OPEN, 10][..], &second].concat());
+            if rng.percent(40) {
+                let last = wanted.len() - 1;
+                wanted.swap(last - 1, last);
+            }
+        }
+        area_with(rng, &wanted)
+    }
+
+    /// A name that isn't in the table, if one is easily found.
+    fn new_name(&mut self, theme: &Theme) -> (Vec<u8>, u16) {
+        let mut name = (self.address(), self.some_port(theme));
+        for _ in 0..8 {
+            let taken = self.slots(|slot| slot.status != Status::Free);
+            if !taken.iter().any(|s| s.port() == name.1 && s.address(self.family) == name.0) {
+                break;
+            }
+            name = (self.address(), self.some_port(theme));
+        }
+        name
+    }
+
+    fn open(&mut self, theme: &Theme) {
+        let (source, port) = self.new_name(theme);
+        let mut plan = self.plan(&source, port);
+        plan.options = self.options(theme, &source);
+        plan.sequence = self.script.rng.sequence();
+        plan.payload = self.script.rng.payload();
+        if self.script.rng.percent(4) {
+            // around the early room now set
+            let room = self.script.session.listener.front().map_or(0, |f| f.current_settings().room);
+            let around = (u64::from(room) + self.script.rng.below(3)).saturating_sub(1);
+            plan.payload = self.script.rng.bytes(around.min(1460) as usize);
+        }
+        if self.script.rng.percent(5) {
+            plan.acknowledgement = self.script.rng.sequence();
+        }
+        self.segment(theme, plan);
+    }
+
+    /// An opening for a name that is there already.
+    fn open_again(&mut self, theme: &Theme) {
+        let unfinished = self.script.rng.percent(70);
+        let wanted = |slot: &Slot| slot.status != Status::Free && (!unfinished || slot.expected().is_some());
+        let Some(slot) = self.some_slot(wanted) else { return self.open(theme) };
+        let source = slot.address(self.family);
+        let mut plan = self.plan(&source, slot.port());
+        plan.options = self.options(theme, &source);
+        plan.sequence = slot.irs;
+        plan.payload = self.script.rng.payload();
+        if self.script.rng.percent(30) {
+            plan.sequence =
+                self.script.rng.pick(&[slot.irs.wrapping_add(1), slot.irs.wrapping_sub(1), !slot.irs]);
+        }
+        self.segment(theme, plan);
+    }
+
+    /// A slot to try something on, mostly one in the right state, or else one made up.
+    fn target(&mut self, right: fn(&Slot) -> bool) -> Slot {
+        let slot = match self.script.rng.below(20) {
+            0..=14 => self.some_slot(right),
+            15..=17 => self.some_slot(|slot| slot.status != Status::Free && !right(slot)),
+            // stale names in free slots are tried too
+            18 => self.some_slot(|slot| slot.port() != 0),
+            _ => None,
+        };
+        slot.or_else(|| self.some_slot(|_| true)).unwrap_or(Slot::FREE)
+    }
+
+    fn complete(&mut self, theme: &Theme) {
+        let slot = self.target(|slot| slot.expected().is_some());
+        let mut plan = self.plan(&slot.address(self.family), slot.port());
+        let rng = &mut self.script.rng;
+        plan.flags = ACK;
+        plan.sequence = slot.expected().unwrap_or(slot.irs.wrapping_add(1));
+        plan.acknowledgement = slot.iss.wrapping_add(1);
+        match rng.below(20) {
+            0..=9 => {}
+            10..=12 => plan.sequence = plan.sequence.wrapping_add(rng.pick(&[1, 10, 1460, 65_533, 65_534])),
+            13 | 14 => plan.sequence = plan.sequence.wrapping_add(rng.pick(&[u32::MAX, 65_535, 65_536])),
+            15 => plan.sequence = rng.sequence(),
+            16 => plan.acknowledgement = plan.acknowledgement.wrapping_add(rng.pick(&NUDGES)),
+            17 => plan.sequence = slot.irs.wrapping_add(rng.below(3) as u32),
+            _ => plan.flags |= FIN,
+        }
+        if rng.percent(30) {
+            plan.payload = rng.payload();
+        }
+        if rng.percent(20) {
+            let source = plan.source.clone();
+            plan.options = self.options(theme, &source);
+        }
+        self.segment(theme, plan);
+    }
+
+    fn reset(&mut self, theme: &Theme) {
+        let early = self.script.rng.percent(70);
+        let slot = if early {
+            self.target(|slot| matches!(slot.status, Status::Early { .. }))
+        } else {
+            self.target(|slot| slot.expected().is_some())
+        };
+        let mut plan = self.plan(&slot.address(self.family), slot.port());
+        let rng = &mut self.script.rng;
+        plan.flags = RST | rng.pick(&[0, 0, 0, ACK, FIN, ACK | FIN]);
+        plan.sequence = slot.expected().unwrap_or(slot.irs.wrapping_add(1));
+        plan.acknowledgement = rng.pick(&[0, slot.iss.wrapping_add(1)]);
+        match rng.below(20) {
+            0 => plan.sequence = plan.sequence.wrapping_add(rng.pick(&NUDGES)),
+            1 => plan.sequence = slot.irs.wrapping_add(rng.below(3) as u32),
+            2 => plan.sequence = plan.sequence.wrapping_sub(1),
+            _ => {}
+        }
+        self.segment(theme, plan);
+    }
+
+    /// All flag combinations on all sorts of names, numbers being right where they can be.
+    fn kinds(&mut self, theme: &Theme) {
+        let slot = self.target(|slot| slot.expected().is_some());
+        let mut plan = self.plan(&slot.address(self.family), slot.port());
+        plan.flags = self.script.rng.next() as u8;
+        plan.sequence = slot.expected().unwrap_or(0);
+        plan.acknowledgement = slot.iss.wrapping_add(1);
+        let source = plan.source.clone();
+        plan.options = self.options(theme, &source);
+        self.segment(theme, plan);
+    }
+
+    /// Several behind one address, with one cookie and one initial number.
+    fn twins(&mut self, theme: &Theme) {
+        let source = self.address();
+        let options = self.options(theme, &source);
+        let irs = self.script.rng.sequence();
+        let first = self.some_port(theme);
+        for twin in 0..self.script.rng.within(2, 4) {
+            let mut plan = self.plan(&source, first.wrapping_add(twin as u16));
+            plan.options = options.clone();
+            plan.sequence = irs;
+            plan.payload = self.script.rng.payload();
+            self.segment(theme, plan);
+        }
+    }
+
+    /// Something on a held name, just before its end, at it, or after.
+    fn hold(&mut self, theme: &Theme) {
+        let clock = self.clock();
+        let held = |slot: &Slot| matches!(slot.status, Status::Held { until } if until > clock);
+        let Some(slot) = self.some_slot(held) else { return self.reset(theme) };
+        let Status::Held { until } = slot.status else { return };
+        let source = slot.address(self.family);
+        let rng = &mut self.script.rng;
+        if until - clock < 3000 || rng.percent(20) {
+            self.meeting = Some(until - 1 + rng.pick(&[0, 0, 1, 1, 1, 2]));
+        }
+        match rng.below(8) {
+            0 => self.on_name(theme, "abandon", &slot),
+            1 => self.on_name(theme, "resend", &slot),
+            2 => self.on_name(theme, "close", &slot),
+            // another name, which gets the place or the pending number
+            3 | 4 => self.open(theme),
+            kind => {
+                let mut plan = self.plan(&source, slot.port());
+                plan.options = self.options(theme, &source);
+                plan.sequence = slot.irs;
+                if kind == 5 {
+                    plan.flags = RST;
+                    plan.sequence = slot.irs.wrapping_add(1);
+                }
+                plan.payload = self.script.rng.payload();
+                self.segment(theme, plan);
+            }
+        }
+        self.meeting = None;
+    }
+
+    fn noise(&mut self, theme: &Theme) {
+        let time = self.time(theme);
+        let source = self.address();
+        let bytes = noise(&mut self.script.rng, &source, &self.own, self.port);
+        let ours = self.script.rng.sequence();
+        let line = Line::new("segment").u64(time).bytes(&source).u32(ours).out(36).bytes(&bytes);
+        self.script.call(&line);
+    }
+
+    fn output(&mut self) -> usize {
+        self.script.rng.pick(&[36, 36, 36, 36, 36, 36, 37, 40, 100, 2047, 2048])
+    }
+
+    fn small_output(&mut self) -> usize {
+        self.script.rng.pick(&[0, 1, 23, 24, 35, 35, 35])
+    }
+
+    fn segment(&mut self, theme: &Theme, mut plan: Plan) {
+        let mut time = self.time(theme);
+        let mut source = plan.source.clone();
+        let mut out = self.output();
+        let ours = self.script.rng.sequence();
+        plan.decorate(&mut self.script.rng);
+        if self.script.rng.percent(theme.damage) {
+            // Often more than one at once, so that the order of refusals shows.
+            for _ in 0..self.script.rng.pick(&[1, 1, 1, 2, 2, 3, 4]) {
+                match self.script.rng.weighted(&[9, 9, 10, 18, 60]) {
+                    0 => time = self.bad_time(),
+                    1 => source = self.bad_address(),
+                    2 => out = self.small_output(),
+                    3 => plan.destination_port ^= self.script.rng.pick(&[1, 256, 0x8000]),
+                    _ => plan.damage(&mut self.script.rng),
+                }
+            }
+        }
+        let bytes = plan.encode();
+        let line = Line::new("segment").u64(time).bytes(&source).u32(ours).out(out).bytes(&bytes);
+        self.script.call(&line);
+    }
+
+    fn by_name(&mut self, theme: &Theme, name: &'static str) {
+        let slot = if name == "close" {
+            self.target(|slot| slot.status == Status::Open)
+        } else {
+            self.target(|slot| slot.expected().is_some())
+        };
+        self.on_name(theme, name, &slot);
+    }
+
+    fn on_name(&mut self, theme: &Theme, name: &'static str, slot: &Slot) {
+        let mut time = self.time(theme);
+        let mut source = slot.address(self.family);
+        let mut port = slot.port();
+        let mut out = self.output();
+        if self.script.rng.percent(theme.damage) {
+            for _ in 0..self.script.rng.pick(&[1, 1, 2, 3]) {
+                match self.script.rng.below(4) {
+                    0 => time = self.bad_time(),
+                    1 => source = self.bad_address(),
+                    2 => out = self.small_output(),
+                    _ => port ^= 1,
+                }
+            }
+        }
+        let mut line = Line::new(name).u64(time).bytes(&source).u16(port);
+        if name == "resend" {
+            line = line.out(out);
+        }
+        self.script.call(&line);
+    }
+
+    /// A settings call, at a given time an in-range one that suits the theme.
+    fn settings(&mut self, theme: &Theme, time: Option<u64>) {
+        let mut at = time.unwrap_or_else(|| self.time(theme));
+        let rng = &mut self.script.rng;
+        let mut settings = Settings {
+            on: rng.percent(93) || (theme.brim && time.is_some()),
+            limit: rng.pick(theme.limits),
+            room: rng.pick(&[1460, 1460, 1459, 100, 20, 10, 1, 0]),
+            hold: rng.pick(theme.holds),
+            mss: rng.pick(&[1460, 536, 537, 1459, 1220]),
+        };
+        if time.is_none() {
+            if rng.percent(20) {
+                settings.limit = rng.below(65) as u32;
+                settings.hold = rng.pick(&[0, 1, 65_534, 65_535]);
+                settings.room = rng.below(1461) as u32;
+                settings.mss = rng.within(536, 1460) as u32;
+            }
+            if rng.percent(40) {
+                for _ in 0..rng.pick(&[1, 1, 1, 2]) {
+                    match rng.below(4) {
+                        0 => settings.limit = rng.pick(&[65, 65, 65, 66, 256 + 8, 65_536, u32::MAX]),
+                        1 => settings.room = rng.pick(&[1461, 1461, 1461, 65_536 + 100, u32::MAX]),
+                        2 => settings.hold = rng.pick(&[65_536, 65_536, 65_536, 131_072, u32::MAX]),
+                        _ => settings.mss = rng.pick(&[0, 535, 535, 1461, 1461, 65_536 + 1000, u32::MAX]),
+                    }
+                }
+            }
+            if rng.percent(12) {
+                at = self.bad_time();
+            }
+        }
+        let line = Line::new("settings")
+            .u64(at)
+            .text(if settings.on { "on" } else { "off" })
+            .u32(settings.limit)
+            .u32(settings.room)
+            .u32(settings.hold)
+            .u32(settings.mss);
+        self.script.call(&line);
+    }
+
+    fn key(&mut self, theme: &Theme) {
+        let mut time = self.time(theme);
+        if self.script.rng.percent(8) {
+            time = self.bad_time();
+        }
+        let rng = &mut self.script.rng;
+        let back = |steps: usize| self.keys.iter().rev().nth(steps).map(|key| key.to_vec());
+        let key = match rng.below(20) {
+            0..=2 => back(0),
+            3 => back(1),
+            4 => back(2),
+            5 | 6 => {
+                let length = rng.pick(&[0, 1, 8, 15, 17, 32]);
+                Some(rng.bytes(length))
+            }
+            _ => None,
+        };
+        let key = key.unwrap_or_else(|| rng.bytes(16));
+        let done = self.script.call(&Line::new("key").u64(time).bytes(&key));
+        if let (true, Ok(key)) = (done, key.try_into()) {
+            self.keys.push(key);
+        }
+    }
+}

@@ -1,0 +1,239 @@
+//! Segments as plans: right ones first, then damaged field by field.
+
+use super::Rng;
+use crate::wire;
+
+#[derive(Clone, Copy)]
+pub enum Sum {
+    Right,
+    /// Right but for these bits.
+    Off(u16),
+    /// The urgent pointer makes the sum come out as zero; the field has zero's other form.
+    OtherZero,
+}
+
+#[derive(Clone)]
+pub struct Plan {
+    pub source: Vec<u8>,
+    pub destination: Vec<u8>,
+    pub source_port: u16,
+    pub destination_port: u16,
+    pub sequence: u32,
+    pub acknowledgement: u32,
+    pub flags: u8,
+    pub window: u16,
+    pub urgent: u16,
+    pub options: Vec<u8>,
+    pub payload: Vec<u8>,
+    pub reserved: u8,
+    pub offset: Option<u8>,
+    pub length: Option<usize>,
+    pub sum: Sum,
+}
+
+impl Plan {
+    /// Bytes with the checksum asked for.
+    pub fn encode(&self) -> Vec<u8> {
+        let mut bytes = Vec::new();
+        bytes.extend_from_slice(&self.source_port.to_be_bytes());
+        bytes.extend_from_slice(&self.destination_port.to_be_bytes());
+        bytes.extend_from_slice(&self.sequence.to_be_bytes());
+        bytes.extend_from_slice(&self.acknowledgement.to_be_bytes());
+        let offset = self.offset.unwrap_or((5 + self.options.len().div_ceil(4)) as u8);
+        bytes.push(offset << 4 | self.reserved & 0x0f);
+        bytes.push(self.flags);
+        bytes.extend_from_slice(&self.window.to_be_bytes());
+        bytes.extend_from_slice(&[0, 0]);
+        bytes.extend_from_slice(&self.urgent.to_be_bytes());
+        bytes.extend_from_slice(&self.options);
+        bytes.resize(bytes.len().next_multiple_of(4), 0);
+        bytes.extend_from_slice(&self.payload);
+        if let Some(length) = self.length {
+            bytes.resize(length, 0x5a);
+        }
+        if bytes.len() >= wire::HEADER {
+            self.seal(&mut bytes);
+        }
+        bytes
+    }
+
+    fn seal(&self, bytes: &mut [u8]) {
+        let sum = |bytes: &[u8]| wire::checksum(&self.source, &self.destination, bytes);
+        let field = match self.sum {
+            Sum::Right => sum(bytes),
+            Sum::Off(bits) => sum(bytes) ^ bits,
+            Sum::OtherZero => {
+                bytes[18..20].fill(0);
+                let missing = sum(bytes);
+                bytes[18..20].copy_from_slice(&missing.to_be_bytes());
+                0xffff
+            }
+        };
+        bytes[16..18].copy_from_slice(&field.to_be_bytes());
+    }
+
+    /// Things that make no difference to what a segment is.
+    pub fn decorate(&mut self, rng: &mut Rng) {
+        if rng.percent(20) {
+            // CWR, ECE, URG and PSH
+            self.flags |= rng.next() as u8 & 0b1110_1000;
+        }
+        if rng.percent(15) {
+            self.reserved = rng.next() as u8;
+        }
+        if rng.percent(25) {
+            self.window = rng.next() as u16;
+        }
+        if rng.percent(10) {
+            self.urgent = rng.next() as u16;
+        }
+        if rng.percent(3) {
+            self.sum = Sum::OtherZero;
+        }
+        if rng.percent(1) {
+            self.length = Some(rng.pick(&[1519, 1520]));
+        }
+    }
+
+    /// One damage to the segment itself; the checksum fits unless it is the damage.
+    pub fn damage(&mut self, rng: &mut Rng) {
+        match rng.weighted(&[12, 8, 14, 8, 24, 20, 12, 12]) {
+            0 => self.length = Some(rng.pick(&[0, 1, 12, 13, 14, 18, 19, 19, 1521, 1521, 1522, 1600])),
+            1 => self.offset = Some(rng.pick(&[0, 1, 3, 4, 4])),
+            2 => {
+                // a header just longer than the segment, or only the longest one
+                let size = wire::HEADER + self.options.len() + self.payload.len();
+                let just_over = (size / 4 + 1).min(15) as u8;
+                self.offset = Some(rng.pick(&[just_over, 15]));
+                if size >= 60 {
+                    self.length = Some(rng.pick(&[20, 40, 59, 60]));
+                }
+            }
+            3 => self.sum = Sum::Off(0xffff),
+            4 => self.sum = Sum::Off(1 << rng.below(16)),
+            5 => self.flags = rng.next() as u8,
+            6 => self.sequence = self.sequence.wrapping_add(rng.pick(&NUDGES)),
+            _ => self.acknowledgement = self.acknowledgement.wrapping_add(rng.pick(&NUDGES)),
+        }
+    }
+}
+
+/// Steps about the edges of a window.
+pub const NUDGES: [u32; 10] =
+    [1, 2, u32::MAX, u32::MAX - 1, 65_533, 65_534, 65_535, 65_536, 1 << 31, (1 << 31) - 1];
+
+/// An option area that carries these options among others, in at most 40 bytes.
+pub fn area_with(rng: &mut Rng, wanted: &[Vec<u8>]) -> Vec<u8> {
+    let mut area = Vec::new();
+    for option in wanted {
+        if rng.percent(25) {
+            let other = bystander(rng);
+            if area.len() + other.len() + option.len() <= 40 {
+                area.extend_from_slice(&other);
+            }
+        }
+        if area.len() + option.len() <= 40 {
+            area.extend_from_slice(option);
+        }
+    }
+    let fill = rng.pick(&[wire::NO_OPERATION, wire::NO_OPERATION, wire::END_OF_LIST, 34, 2, 255]);
+    area.resize(area.len().next_multiple_of(4), fill);
+    area
+}
+
+/// A sound option of another kind.
+fn bystander(rng: &mut Rng) -> Vec<u8> {
+    match rng.below(7) {
+        0 => vec![wire::NO_OPERATION],
+        1 => vec![4, 2],
+        2 => vec![3, 3, 7],
+        3 => [&[8, 10][..], &rng.bytes(8)].concat(),
+        // these two kinds with lengths that don't count
+        4 => option(rng, wire::MSS, &[2, 3, 5, 6, 8]),
+        5 => option(rng, wire::FAST_OPEN, &[3, 4, 4, 5, 7, 9, 11, 17, 19, 20]),
+        _ => {
+            let kind = rng.within(5, 255) as u8;
+            let kind = if kind == wire::FAST_OPEN { 35 } else { kind };
+            option(rng, kind, &[2, 3, 4, 7, 12])
+        }
+    }
+}
+
+fn option(rng: &mut Rng, kind: u8, lengths: &[u8]) -> Vec<u8> {
+    let length = rng.pick(lengths);
+    let mut bytes = vec![kind, length];
+    bytes.extend(rng.bytes(usize::from(length).saturating_sub(2)));
+    bytes
+}
+
+/// An option area of any sort: every kind and length, repeated, cut off, or plain noise.
+/// `cookie` is one that would be right.
+pub fn wild_area(rng: &mut Rng, cookie: &[u8]) -> Vec<u8> {
+    let mut area = Vec::new();
+    let room = 4 * rng.index(11);
+    if rng.percent(10) {
+        return rng.bytes(room);
+    }
+    while area.len() < room {
+        match rng.below(12) {
+            0 | 1 => area.push(wire::NO_OPERATION),
+            2 if rng.percent(30) => area.push(wire::END_OF_LIST),
+            3 | 4 => {
+                area.extend_from_slice(&[wire::FAST_OPEN, 2 + cookie.len() as u8]);
+                area.extend_from_slice(cookie);
+            }
+            5 => area.extend_from_slice(&[wire::FAST_OPEN, 2]),
+            6 => {
+                let length = rng.below(41) as u8;
+                area.extend(option(rng, wire::FAST_OPEN, &[length]));
+            }
+            7 => {
+                let length = rng.below(41) as u8;
+                area.extend(option(rng, wire::MSS, &[length]));
+            }
+            8 => area.extend(option(rng, wire::MSS, &[4])),
+            9 => {
+                let (kind, length) = (rng.next() as u8, rng.below(41) as u8);
+                area.extend(option(rng, kind, &[length]));
+            }
+            10 => area.extend(bystander(rng)),
+            _ => {
+                let kind = rng.pick(&[wire::FAST_OPEN, wire::MSS, 8, 255]);
+                area.push(kind);
+                area.push(rng.pick(&[0, 1, 2, 3, 6, 10, 18, 38, 39, 40, 41, 255]));
+            }
+        }
+    }
+    if rng.percent(50) {
+        // cut at the end
+        area.truncate(room);
+    } else {
+        // pad in front, so that the last option ends, or is cut, exactly at the end
+        let over = area.len().next_multiple_of(4) - area.len();
+        area.splice(0..0, std::iter::repeat_n(wire::NO_OPERATION, over));
+        area.truncate(40);
+    }
+    area
+}
+
+/// Noise, sometimes with a sound header and a right checksum.
+pub fn noise(rng: &mut Rng, source: &[u8], destination: &[u8], port: u16) -> Vec<u8> {
+    let length = match rng.below(10) {
+        0 => rng.pick(&[0, 1, 19, 20, 21, 1519, 1520, 1521]),
+        1 => rng.within(200, 1700),
+        _ => rng.within(0, 90),
+    };
+    let mut bytes = rng.bytes(length as usize);
+    if bytes.len() >= wire::HEADER && rng.percent(80) {
+        if rng.percent(70) {
+            bytes[12] = (rng.within(5, 9) as u8) << 4;
+        }
+        if rng.percent(85) {
+            bytes[2..4].copy_from_slice(&port.to_be_bytes());
+        }
+        bytes[16..18].fill(0);
+        let sum = wire::checksum(source, destination, &bytes);
+        bytes[16..18].copy_from_slice(&sum.to_be_bytes());
+    }
+    bytes
+}

@@ -1,0 +1,216 @@
+//! Pieces of work to be timed from outside, each giving a digest of what it did so that
+//! two programs' runs can be seen to be the same work.
+
+use std::hint::black_box;
+
+use crate::aes::Schedule;
+use crate::listener::{cookie, Kind, Listener, Reply, Settings, LEAST_OUTPUT, SLOTS};
+use crate::wire::{self, Header, Refusal, ACK, SYN};
+
+const KEY: [u8; 16] = [0, 1, 2, 3, 4, 5, 6, 7, 8, 9, 10, 11, 12, 13, 14, 15];
+const OWN: [u8; 4] = [192, 0, 2, 2];
+const OWN_PORT: u16 = 443;
+const PEER: [u8; 4] = [192, 0, 2, 1];
+const PEER_PORT: u16 = 40_000;
+const LIVE_PORT: u16 = 50_000;
+const IRS: u32 = 1000;
+const ISS: u32 = 7;
+
+/// The digest of a work, or `None` for a name that is none.
+pub fn run(work: &str, count: u64, live: usize, payload: usize) -> Option<u64> {
+    let live = live.min(SLOTS);
+    match work {
+        "block" => Some(block(count)),
+        "expand" => Some(expand(count)),
+        "checksum" => Some(checksum(count, payload)),
+        "options" => Some(options(count)),
+        "early" => Some(opened_and_abandoned(count, live, &early_opening(payload))),
+        "request" => Some(opened_and_abandoned(count, live, &request_opening(PEER_PORT))),
+        "repeat" => Some(repeat(count, live, payload)),
+        "completion" => Some(completion(count, live, payload)),
+        "refusal" => {
+            let mut opening = early_opening(payload);
+            if let Some(last) = opening.last_mut() {
+                *last ^= 1;
+            }
+            Some(openings(count, live, &opening))
+        }
+        "full" => Some(openings(count, SLOTS, &early_opening(payload))),
+        "unknown" => Some(unknown(count, live)),
+        _ => None,
+    }
+}
+
+fn pattern(length: usize) -> Vec<u8> {
+    (0..length).map(|i| (i % 256 * 7 + 3) as u8).collect()
+}
+
+fn first_eight(bytes: [u8; 16]) -> u64 {
+    (u128::from_be_bytes(bytes) >> 64) as u64
+}
+
+fn block(count: u64) -> u64 {
+    let schedule = Schedule::expand(&KEY);
+    let mut b = 0x00112233445566778899aabbccddeeff_u128.to_be_bytes();
+    for _ in 0..count {
+        b = black_box(&schedule).encrypt(black_box(&b));
+    }
+    first_eight(b)
+}
+
+fn expand(count: u64) -> u64 {
+    let mut k = KEY;
+    for _ in 0..count {
+        k = Schedule::expand(black_box(&k)).last_round_key();
+    }
+    first_eight(k)
+}
+
+fn checksum(count: u64, payload: usize) -> u64 {
+    let bytes = pattern(payload);
+    let mut sum = 0;
+    for _ in 0..count {
+        sum = wire::add_to_sum(black_box(sum), black_box(&bytes));
+    }
+    sum.into()
+}
+
+fn options(count: u64) -> u64 {
+    let mut area = [
+        2, 4, 5, 0xb4, 4, 2, 8, 10, 1, 2, 3, 4, 5, 6, 7, 8, 1, 3, 3, 7, 34, 10, 0xa1, 0xa2, 0xa3, 0xa4, 0xa5,
+        0xa6, 0xa7, 0xa8, 1, 1,
+    ];
+    let mut digest = 0u64;
+    for turn in 0..count {
+        area[3] = turn as u8;
+        let read = wire::read_options(black_box(&area));
+        digest = digest.wrapping_add(read.mss.unwrap_or(0).into());
+        if let Some(option) = read.fast_open {
+            digest = digest.wrapping_add((option.at + option.cookie.len()) as u64);
+        }
+    }
+    digest
+}
+
+/// A segment from the peer with a right checksum.
+fn from_peer(
+    port: u16,
+    sequence: u32,
+    acknowledgement: u32,
+    flags: u8,
+    options: &[u8],
+    payload: &[u8],
+) -> Vec<u8> {
+    let mut segment = vec![0; wire::HEADER];
+    segment.extend_from_slice(options);
+    segment.extend_from_slice(payload);
+    let header = Header { source_port: port, destination_port: OWN_PORT, sequence, acknowledgement, flags };
+    wire::finish(&mut segment, &header, options.len(), &PEER, &OWN);
+    segment
+}
+
+fn early_opening(payload: usize) -> Vec<u8> {
+    let mut options = vec![2, 4, 5, 0xb4, 34, 10];
+    options.extend_from_slice(&cookie(&KEY, &PEER));
+    options.extend_from_slice(&[1, 1]);
+    from_peer(PEER_PORT, IRS, 0, SYN, &options, &pattern(payload))
+}
+
+fn request_opening(port: u16) -> Vec<u8> {
+    from_peer(port, IRS, 0, SYN, &[2, 4, 5, 0xb4, 34, 2, 1, 1], &[])
+}
+
+/// A listener under way, with the output it is lent and the digest so far.
+struct Bench {
+    listener: Listener,
+    out: [u8; LEAST_OUTPUT],
+    digest: u64,
+}
+
+impl Bench {
+    fn new(live: usize) -> Bench {
+        let mut listener = Listener::start(&OWN, OWN_PORT, &KEY).expect("a right start");
+        let settings = Settings { on: true, limit: 64, room: 1460, hold: 0, mss: 1460 };
+        listener.settings(0, settings).expect("right settings");
+        let mut bench = Bench { listener, out: [0; LEAST_OUTPUT], digest: 0 };
+        for port in (LIVE_PORT..).take(live) {
+            let reply = bench.segment(ISS, &request_opening(port));
+            assert!(matches!(reply, Ok(Reply { kind: Kind::Opening(_), .. })));
+        }
+        bench
+    }
+
+    fn segment(&mut self, ours: u32, segment: &[u8]) -> Result<Reply, Refusal> {
+        self.listener.segment(0, black_box(&PEER), ours, black_box(segment), &mut self.out)
+    }
+
+    fn add_segment(&mut self, ours: u32, segment: &[u8]) {
+        match self.segment(ours, segment) {
+            Ok(reply) => {
+                self.digest = self.digest.wrapping_add((reply.accepted + reply.written) as u64);
+                if reply.written > 0 {
+                    let sum = u16::from_be_bytes([self.out[16], self.out[17]]);
+                    self.digest = self.digest.wrapping_add(sum.into());
+                }
+            }
+            Err(refusal) => self.add_number(Err(refusal)),
+        }
+    }
+
+    fn add_number(&mut self, result: Result<(), Refusal>) {
+        let number = result.map_or_else(Refusal::number, |()| 0);
+        self.digest = self.digest.wrapping_add(number.into());
+    }
+}
+
+fn opened_and_abandoned(count: u64, live: usize, opening: &[u8]) -> u64 {
+    let mut bench = Bench::new(live);
+    for turn in 0..count {
+        bench.add_segment(turn as u32, opening);
+        let result = bench.listener.abandon(0, black_box(&PEER), black_box(PEER_PORT));
+        bench.add_number(result);
+    }
+    bench.digest
+}
+
+fn openings(count: u64, live: usize, opening: &[u8]) -> u64 {
+    let mut bench = Bench::new(live);
+    for turn in 0..count {
+        bench.add_segment(turn as u32, opening);
+    }
+    bench.digest
+}
+
+fn repeat(count: u64, live: usize, payload: usize) -> u64 {
+    let opening = early_opening(payload);
+    let mut bench = Bench::new(live);
+    let _ = bench.segment(ISS, &opening);
+    for turn in 0..count {
+        bench.add_segment(turn as u32, &opening);
+    }
+    bench.digest
+}
+
+fn completion(count: u64, live: usize, payload: usize) -> u64 {
+    let opening = early_opening(payload);
+    // The whole payload is accepted up to the early room.
+    let accepted = payload.min(1460) as u32;
+    let completion = from_peer(PEER_PORT, IRS + 1 + accepted, ISS + 1, ACK, &[], &[]);
+    let mut bench = Bench::new(live);
+    for turn in 0..count {
+        bench.add_segment(ISS, &opening);
+        bench.add_segment(turn as u32, &completion);
+        let result = bench.listener.close(0, black_box(&PEER), black_box(PEER_PORT));
+        bench.add_number(result);
+    }
+    bench.digest
+}
+
+fn unknown(count: u64, live: usize) -> u64 {
+    let mut bench = Bench::new(live);
+    for _ in 0..count {
+        let result = bench.listener.abandon(0, black_box(&PEER), black_box(PEER_PORT));
+        bench.add_number(result);
+    }
+    bench.digest
+}
