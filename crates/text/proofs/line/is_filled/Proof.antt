@@ -1,0 +1,63 @@
+-- `text::line::is_filled` meets its contract: every byte before the place is `b`.
+-- Assumes nothing.
+use Prim.Native.Nat.{_-_, _≤_, _<_}
+use mathlib.Core.Path.{refl}
+use native.Mathlib.Omega.{arith}
+use lib.Dec.{eqb}
+use lib.ListN.{length}
+use borrow.Author.Needs.{needs}
+use borrow.Author.Tests.{eq-eqb, ne-eqb}
+use Rattle.text.proofs.Places.{Passed, passed-on, passed-not, passed-all}
+use Rattle.text.proofs.line.is_filled.Statement.{statement}
+use Rattle.text.proofs.line.is_filled.Tie as tie
+
+abbrev Inv-loop : tie.InvT-loop
+Inv-loop bytes b i₀ i = (i ≤ length bytes) × Passed (λ x. eqb x b) bytes i
+
+abbrev μ-loop : tie.MeasureT-loop
+μ-loop bytes b i₀ i = length bytes - i
+
+loop-holds : tie.Need-loop-holds Inv-loop μ-loop
+loop-holds c = (search needs, refl)
+
+shared-slice-read-if1 : tie.Need-shared-slice-read-if1 Inv-loop μ-loop
+shared-slice-read-if1 c = search needs
+
+returns : tie.Need-returns Inv-loop μ-loop
+returns c =
+    let q = c .before .before .before .loop in
+    let s = c .before .before .before .before .args .bytes .now in
+    let h : q .i < length s = omega arith in
+    passed-not _ s (q .i) h (ne-eqb _ _ (c .if1 .taken)) (q .inv .1)
+
+add-i : tie.Need-add-i Inv-loop μ-loop
+add-i c = search needs
+
+loop-less : tie.Need-loop-less Inv-loop μ-loop
+loop-less c = search needs
+
+loop-again : tie.Need-loop-again Inv-loop μ-loop
+loop-again c =
+    let q = c .before .before .before .loop in
+    let s = c .before .before .before .before .args .bytes .now in
+    let h : q .i < length s = omega arith in
+    (search needs, passed-on _ s (q .i) h (eq-eqb _ _ (c .if1 .left)) (q .inv .1))
+
+returns-2 : tie.Need-returns-2 Inv-loop μ-loop
+returns-2 c =
+    let q = c .before .loop in
+    passed-all _ (c .before .before .args .bytes .now) (q .i) (omega arith) (q .inv .1)
+
+pub is-filled-spec : {M : Type 1} → statement M
+is-filled-spec =
+    tie.close
+    (tie.spec
+    Inv-loop
+    μ-loop
+    loop-holds
+    shared-slice-read-if1
+    returns
+    add-i
+    loop-less
+    loop-again
+    returns-2)

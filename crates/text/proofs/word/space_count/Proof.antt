@@ -1,0 +1,60 @@
+-- `text::word::space_count` meets its contract: `n` spaces stand before the place.
+-- Assumes nothing.
+use Prim.Native.Nat.{_-_, _≤_, _<_}
+use mathlib.Core.Logic.{⊎-elim}
+use native.Mathlib.Omega.{arith}
+use lib.ListN.{length}
+use borrow.Author.Needs.{needs}
+use borrow.Author.Tests.{eq-eqb, ne-eqb}
+use Rattle.text.specs.Word.{isSpace}
+use Rattle.text.proofs.Places.{Counted, counted-one, counted-none, counted-all}
+use Rattle.text.proofs.word.space_count.Statement.{statement}
+use Rattle.text.proofs.word.space_count.Tie as tie
+
+abbrev Inv-loop : tie.InvT-loop
+Inv-loop line n₀ i₀ n i = (i ≤ length line) × ((n ≤ i) × Counted isSpace line n i)
+
+abbrev μ-loop : tie.MeasureT-loop
+μ-loop line n₀ i₀ n i = length line - i
+
+loop-holds : tie.Need-loop-holds Inv-loop μ-loop
+loop-holds c = (search needs, (search needs, omega arith))
+
+shared-slice-read-if1 : tie.Need-shared-slice-read-if1 Inv-loop μ-loop
+shared-slice-read-if1 c = search needs
+
+add-n : tie.Need-add-n Inv-loop μ-loop
+add-n c = search needs
+
+add-i : tie.Need-add-i Inv-loop μ-loop
+add-i c = search needs
+
+loop-less : tie.Need-loop-less Inv-loop μ-loop
+loop-less c = search needs
+
+loop-again : tie.Need-loop-again Inv-loop μ-loop
+loop-again c =
+    let q = c .before .before .before .loop in
+    let s = c .before .before .before .before .args .line .now in
+    let h : q .i < length s = omega arith in
+    ⊎-elim (λ w. (omega arith, (omega arith, rw (w .1) (counted-one isSpace s (q .i) h (q .n) (eq-eqb _ _ (w .0 .taken)) (q .inv .1 .1)))))
+    (λ w. (omega arith, (omega arith, rw (w .1) (counted-none isSpace s (q .i) h (q .n) (ne-eqb _ _ (w .0 .left)) (q .inv .1 .1))))) (c .if1 .came)
+
+returns : tie.Need-returns Inv-loop μ-loop
+returns c =
+    let q = c .before .loop in
+    counted-all isSpace (c .before .before .args .line .now) (q .i) (omega arith) (q .n) (q .inv .1 .1)
+
+pub space-count-spec : {M : Type 1} → statement M
+space-count-spec =
+    tie.close
+    (tie.spec
+    Inv-loop
+    μ-loop
+    loop-holds
+    shared-slice-read-if1
+    add-n
+    add-i
+    loop-less
+    loop-again
+    returns)

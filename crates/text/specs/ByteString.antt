@@ -1,0 +1,62 @@
+-- The replay format: a byte string is an even number of hexadecimal digits, upper or lower case, or `-` for none.
+-- Assumes nothing.
+use Prim.Native.Nat.{ℕ, _+_, _-_, _*_, _/_, _%_}
+use mathlib.Core.List.{List, [], _∷_}
+use mathlib.Core.Bool.{Bool, cond, _&&_, _||_}
+use lib.ListN.{length}
+use lib.Dec.{leb, ltb, eqb}
+use Rattle.endpoint.specs.Lists.{sameBytes, every}
+use Rattle.text.specs.declared.bytestring.ByteString.{ByteString}
+use Rattle.text.specs.declared.bytestring.ByteString.the-variants.{Count, Bad}
+
+-- `-`
+abbrev pub isDash : List ℕ → Bool
+isDash s = sameBytes s (45 ∷ [])
+
+-- what a hexadecimal digit counts: `0` to `9`, `A` to `F`, `a` to `f`; 16 for any other byte
+unfoldable pub nibble : ℕ → ℕ
+nibble b =
+    cond (leb 48 b && leb b 57) (b - 48)
+    (cond (leb 65 b && leb b 70) (b - 55)
+    (cond (leb 97 b && leb b 102) (b - 87) 16))
+
+abbrev pub isHexDigit : ℕ → Bool
+isHexDigit b = ltb (nibble b) 16
+
+-- an even number of digits, at least two, and nothing else
+abbrev pub isHex : List ℕ → Bool
+isHex s = ltb 0 (length s) && (eqb (length s % 2) 0 && every isHexDigit s)
+
+-- the bytes that pairs of digits say
+unfoldable pub pairBytes : List ℕ → List ℕ
+pairBytes [] = []
+pairBytes (a ∷ []) = []
+pairBytes (a ∷ b ∷ s) = (nibble a * 16 + nibble b) ∷ pairBytes s
+
+-- the bytes that a byte string says
+unfoldable pub bytesOf : List ℕ → List ℕ
+bytesOf s = cond (isDash s) [] (pairBytes s)
+
+-- whether a word is a byte string whose bytes have room
+unfoldable pub isReadable : List ℕ → ℕ → Bool
+isReadable s room = (isDash s || isHex s) && leb (length (bytesOf s)) room
+
+-- the bytes that are read to a buffer with so much room; none where the word is bad
+unfoldable pub bytesIn : List ℕ → ℕ → List ℕ
+bytesIn s room = cond (isReadable s room) (bytesOf s) []
+
+unfoldable pub bytesRead : List ℕ → ℕ → ByteString
+bytesRead s room = cond (isReadable s room) (Count (length (bytesOf s))) Bad
+
+-- a digit below 16, in lower case
+abbrev pub hexDigit : ℕ → ℕ
+hexDigit d = cond (ltb d 10) (48 + d) (87 + d)
+
+unfoldable pub hexOf : List ℕ → List ℕ
+hexOf [] = []
+hexOf (b ∷ s) = hexDigit (b / 16) ∷ hexDigit (b % 16) ∷ hexOf s
+
+-- bytes as a word: `-` for none
+unfoldable pub hexWord : List ℕ → List ℕ
+hexWord [] = 45 ∷ []
+hexWord (b ∷ s) = hexOf (b ∷ s)
