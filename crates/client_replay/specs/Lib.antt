@@ -1,0 +1,2 @@
+-- What `client_replay` prints.
+pub mod Line

@@ -1,0 +1,31 @@
+-- The replay format, "Lines out", of `client_replay`. What an answer says is the client's.
+-- Assumes nothing.
+use Prim.Native.Nat.{ℕ}
+use mathlib.Core.Bool.{Bool}
+use mathlib.Core.List.{List, [], _∷_}
+use lib.ListN.{length}
+use Rattle.segment.specs.declared.refusal.Check.{Check}
+use Rattle.segment.specs.declared.refusal.Check.the-variants.{Clear}
+use Rattle.segment.specs.declared.refusal.Check.the-variants.{Refused as CheckRefused}
+use Rattle.client.specs.declared.answer.Event.{Event}
+use Rattle.client.specs.declared.answer.Event.the-variants.{Refused, Reported}
+use Rattle.client.specs.Call.{numberOfEvent, countOf}
+use Rattle.text.specs.Number.{decimal}
+use Rattle.text.specs.ByteString.{hexWord}
+use Rattle.text.specs.Put.{fields, restWord}
+
+-- NUMBER COUNT WRITTEN OUTPUT REST
+unfoldable pub answerLine : Event → List ℕ → Bool → List ℕ
+answerLine event written kept =
+    fields
+    (decimal (numberOfEvent event)
+    ∷ decimal (countOf event)
+    ∷ decimal (length written)
+    ∷ hexWord written
+    ∷ restWord kept
+    ∷ [])
+
+-- a start prints like a report
+abbrev pub eventOf : Check → Event
+eventOf Clear = Reported
+eventOf (CheckRefused why) = Refused why

@@ -1,0 +1,270 @@
+// A line of the script: read, played on the memory, answered.
+use crate::line::event_of;
+use crate::line::put_answer;
+use client::answer::ActiveOpen;
+use client::answer::Attempt;
+use client::answer::Event;
+use client::answer::Outcome;
+use client::calls::answer;
+use client::calls::connect;
+use client::calls::failed;
+use client::calls::start;
+use client::state::Memory;
+use libc::STDOUT_FILENO;
+use text::bytestring::ByteString;
+use text::bytestring::read_bytes;
+use text::line::LONGEST;
+use text::line::is_filled;
+use text::line::is_silent;
+use text::name::Name;
+use text::name::read_name;
+use text::number::Long;
+use text::number::Number;
+use text::number::read_long;
+use text::number::read_number;
+use text::part::first;
+use text::part::rest;
+use text::word::is_word;
+use text::word::space_count;
+use text::word::word_at;
+
+// What the lent output is filled with before a call.
+const FILL: u8 = 0xa5;
+
+// How many bytes of output may be lent.
+const MOST_OUTPUT: u64 = 2048;
+
+fn bad_line(m: Memory) -> Memory {
+    io::write_all(STDOUT_FILENO, b"bad line\n");
+    m
+}
+
+// Prints what a call came to. `lent` is the output that was lent to it.
+fn print_answer(event: Event, lent: &[u8], written: usize) {
+    let mut text = [0u8; 8192];
+    let kept = is_filled(rest(lent, written), FILL);
+    let n = put_answer(&mut text, event, first(lent, written), kept);
+    io::write_all(STDOUT_FILENO, first(&text, n));
+}
+
+// A call without output.
+fn answered(o: Outcome) -> Memory {
+    let nothing = [0u8; 0];
+    let event = o.event;
+    print_answer(event, &nothing, 0);
+    o.memory
+}
+
+// start FAMILY
+fn play_start(m: Memory, line: &[u8]) -> Memory {
+    if space_count(line) != 1 {
+        return bad_line(m);
+    }
+    let Number::Value(size) = read_number(word_at(line, 1), u64::MAX) else {
+        return bad_line(m);
+    };
+    let s = start(size as usize);
+    let memory = s.memory;
+    let check = s.check;
+    answered(Outcome {
+        memory,
+        event: event_of(check),
+        written: 0,
+    })
+}
+
+// What an opening and an answer begin with: the time, how long the two addresses are, both ports and our initial number.
+enum Ends {
+    Known {
+        time: u64,
+        own: usize,
+        source: u16,
+        server: usize,
+        dest: u16,
+        iss: u32,
+    },
+    Bad,
+}
+
+// TIME OWN-ADDRESS OWN-PORT SERVER-ADDRESS SERVER-PORT OURS
+fn read_ends(line: &[u8], own: &mut [u8], server: &mut [u8]) -> Ends {
+    let Number::Value(time) = read_number(word_at(line, 1), u64::MAX) else {
+        return Ends::Bad;
+    };
+    let Name::Known {
+        size: a,
+        port: source,
+    } = read_name(word_at(line, 2), word_at(line, 3), own)
+    else {
+        return Ends::Bad;
+    };
+    let Name::Known {
+        size: b,
+        port: dest,
+    } = read_name(word_at(line, 4), word_at(line, 5), server)
+    else {
+        return Ends::Bad;
+    };
+    let Long::Value(iss) = read_long(word_at(line, 6)) else {
+        return Ends::Bad;
+    };
+    Ends::Known {
+        time,
+        own: a,
+        source,
+        server: b,
+        dest,
+        iss,
+    }
+}
+
+// The call itself, with so much of the output lent.
+fn lend_connect(
+    m: Memory,
+    time: u64,
+    own: &[u8],
+    server: &[u8],
+    o: ActiveOpen,
+    data: &[u8],
+    out: &mut [u8],
+    room: usize,
+) -> Outcome {
+    if room < out.len() {
+        return connect(m, time, own, server, o, data, &mut out[..room]);
+    }
+    connect(m, time, own, server, o, data, out)
+}
+
+// open TIME OWN-ADDRESS OWN-PORT SERVER-ADDRESS SERVER-PORT OURS MSS OUT DATA
+fn play_open(m: Memory, line: &[u8]) -> Memory {
+    let mut own_address = [0u8; 4096];
+    let mut server_address = [0u8; 4096];
+    let mut data = [0u8; 4096];
+    let mut out = [FILL; 2048];
+    if space_count(line) != 9 {
+        return bad_line(m);
+    }
+    let Ends::Known {
+        time,
+        own,
+        source,
+        server,
+        dest,
+        iss,
+    } = read_ends(line, &mut own_address, &mut server_address)
+    else {
+        return bad_line(m);
+    };
+    let Long::Value(mss) = read_long(word_at(line, 7)) else {
+        return bad_line(m);
+    };
+    let Number::Value(room) = read_number(word_at(line, 8), MOST_OUTPUT) else {
+        return bad_line(m);
+    };
+    let ByteString::Count(n) = read_bytes(word_at(line, 9), &mut data) else {
+        return bad_line(m);
+    };
+    let o = lend_connect(
+        m,
+        time,
+        first(&own_address, own),
+        first(&server_address, server),
+        ActiveOpen {
+            source,
+            dest,
+            iss,
+            mss,
+        },
+        first(&data, n),
+        &mut out,
+        room as usize,
+    );
+    let event = o.event;
+    print_answer(event, first(&out, room as usize), o.written);
+    o.memory
+}
+
+// answer TIME OWN-ADDRESS OWN-PORT SERVER-ADDRESS SERVER-PORT OURS SENT SEGMENT
+fn play_answer(m: Memory, line: &[u8]) -> Memory {
+    let mut own_address = [0u8; 4096];
+    let mut server_address = [0u8; 4096];
+    let mut seg = [0u8; 4096];
+    if space_count(line) != 8 {
+        return bad_line(m);
+    }
+    let Ends::Known {
+        time,
+        own,
+        source,
+        server,
+        dest,
+        iss,
+    } = read_ends(line, &mut own_address, &mut server_address)
+    else {
+        return bad_line(m);
+    };
+    let Long::Value(sent) = read_long(word_at(line, 7)) else {
+        return bad_line(m);
+    };
+    let ByteString::Count(n) = read_bytes(word_at(line, 8), &mut seg) else {
+        return bad_line(m);
+    };
+    answered(answer(
+        m,
+        time,
+        first(&own_address, own),
+        first(&server_address, server),
+        Attempt {
+            source,
+            dest,
+            iss,
+            sent,
+        },
+        first(&seg, n),
+    ))
+}
+
+// failed TIME SERVER-ADDRESS SERVER-PORT
+fn play_failed(m: Memory, line: &[u8]) -> Memory {
+    let mut address = [0u8; 4096];
+    if space_count(line) != 3 {
+        return bad_line(m);
+    }
+    let Number::Value(time) = read_number(word_at(line, 1), u64::MAX) else {
+        return bad_line(m);
+    };
+    let Name::Known { size, port } = read_name(word_at(line, 2), word_at(line, 3), &mut address)
+    else {
+        return bad_line(m);
+    };
+    answered(failed(m, time, first(&address, size), port))
+}
+
+// A call, by its first word.
+fn play_call(m: Memory, line: &[u8]) -> Memory {
+    let name = word_at(line, 0);
+    if is_word(name, b"open") {
+        return play_open(m, line);
+    }
+    if is_word(name, b"answer") {
+        return play_answer(m, line);
+    }
+    if is_word(name, b"failed") {
+        return play_failed(m, line);
+    }
+    if is_word(name, b"start") {
+        return play_start(m, line);
+    }
+    bad_line(m)
+}
+
+// A whole line of `len` bytes; of a longer one than is read, `line` is the start.
+pub(crate) fn play_line(m: Memory, line: &[u8], len: usize) -> Memory {
+    if is_silent(line) {
+        return m;
+    }
+    if len > LONGEST {
+        return bad_line(m);
+    }
+    play_call(m, line)
+}

@@ -1,0 +1,2 @@
+-- What `replay` prints.
+pub mod Line

@@ -1,0 +1,49 @@
+-- The replay format, "Lines out", of `replay`. What an answer says is the listener's.
+-- Assumes nothing.
+use Prim.Native.Nat.{ℕ}
+use mathlib.Core.Bool.{Bool}
+use mathlib.Core.List.{List, [], _∷_}
+use lib.ListN.{length}
+use Rattle.segment.specs.declared.refusal.Check.{Check}
+use Rattle.segment.specs.declared.refusal.Check.the-variants.{Clear}
+use Rattle.segment.specs.declared.refusal.Check.the-variants.{Refused as CheckRefused}
+use Rattle.listener.specs.declared.answer.Event.{Event}
+use Rattle.listener.specs.declared.answer.Event.the-variants.{Refused, Done}
+use Rattle.listener.specs.Call.{numberOfEvent, acceptedOf, SegmentKind, opening, reset, completion, none, kindOfEvent, Verdict, early, plain, repeat, unjudged, verdictOf}
+use Rattle.text.specs.Number.{decimal}
+use Rattle.text.specs.ByteString.{hexWord}
+use Rattle.text.specs.Put.{fields, restWord}
+
+-- `opening`, `reset`, `completion` or `-`
+abbrev pub kindWord : SegmentKind → List ℕ
+kindWord opening = 111 ∷ 112 ∷ 101 ∷ 110 ∷ 105 ∷ 110 ∷ 103 ∷ []
+kindWord reset = 114 ∷ 101 ∷ 115 ∷ 101 ∷ 116 ∷ []
+kindWord completion = 99 ∷ 111 ∷ 109 ∷ 112 ∷ 108 ∷ 101 ∷ 116 ∷ 105 ∷ 111 ∷ 110 ∷ []
+kindWord none = 45 ∷ []
+
+-- `early`, `plain`, `repeat` or `-`
+abbrev pub verdictWord : Verdict → List ℕ
+verdictWord early = 101 ∷ 97 ∷ 114 ∷ 108 ∷ 121 ∷ []
+verdictWord plain = 112 ∷ 108 ∷ 97 ∷ 105 ∷ 110 ∷ []
+verdictWord repeat = 114 ∷ 101 ∷ 112 ∷ 101 ∷ 97 ∷ 116 ∷ []
+verdictWord unjudged = 45 ∷ []
+
+-- NUMBER KIND VERDICT ACCEPTED WRITTEN PENDING OUTPUT PART REST
+unfoldable pub answerLine : Event → ℕ → List ℕ → List ℕ → Bool → List ℕ
+answerLine event pending written part kept =
+    fields
+    (decimal (numberOfEvent event)
+    ∷ kindWord (kindOfEvent event)
+    ∷ verdictWord (verdictOf event)
+    ∷ decimal (acceptedOf event)
+    ∷ decimal (length written)
+    ∷ decimal pending
+    ∷ hexWord written
+    ∷ hexWord part
+    ∷ restWord kept
+    ∷ [])
+
+-- a start prints like any other call that is no segment
+abbrev pub eventOf : Check → Event
+eventOf Clear = Done
+eventOf (CheckRefused why) = Refused why
