@@ -1,0 +1,283 @@
+// Whole calls of a listener, as a program makes them: the listener goes into a call and comes back in its outcome.
+use crate::data;
+use crate::data::wide;
+use listener::answer::Outcome;
+use listener::answer::accepted_count;
+use listener::answer::event_number;
+use listener::calls::abandon;
+use listener::calls::close;
+use listener::calls::segment;
+use listener::calls::set_settings;
+use listener::calls::start;
+use listener::state::Settings;
+use segment::sequence::next_after;
+use std::num::wrapping_add_u64;
+
+// Our number, where it is not the turn's.
+const ISS: u32 = 7;
+
+// Our number at a turn.
+fn iss_at(turn: u64) -> u32 {
+    (turn % 4294967296) as u32
+}
+
+// The checksum of the segment that was written, or 0.
+fn checksum_field(written: usize, out: &[u8; 36]) -> u64 {
+    if written == 0 {
+        return 0;
+    }
+    wide(out[16]) * 256 + wide(out[17])
+}
+
+// A digest with what one call answered.
+fn add(digest: u64, o: Outcome, out: &[u8; 36]) -> u64 {
+    let event = o.event;
+    let verdict = wrapping_add_u64(wide(event_number(event)), accepted_count(event) as u64);
+    let output = wrapping_add_u64(o.written as u64, checksum_field(o.written, out));
+    wrapping_add_u64(digest, wrapping_add_u64(verdict, output))
+}
+
+// The calls, each on the listener of the outcome before.
+
+fn take(before: Outcome, peer: &[u8; 4], seg: &[u8], iss: u32, out: &mut [u8; 36]) -> Outcome {
+    segment(before.listener, 0, peer, seg, iss, out)
+}
+
+fn abandon_peer(before: Outcome, peer: &[u8; 4]) -> Outcome {
+    abandon(before.listener, 0, peer, data::PEER_PORT)
+}
+
+fn close_peer(before: Outcome, peer: &[u8; 4]) -> Outcome {
+    close(before.listener, 0, peer, data::PEER_PORT)
+}
+
+// Before the loops
+
+// A listener that is on, with no connection.
+fn empty_listener() -> Outcome {
+    let started = start(&data::own(), data::OWN_PORT, &data::key());
+    let settings = Settings {
+        on: true,
+        limit: 64,
+        room: 1460,
+        hold: 0,
+        mss: 1460,
+    };
+    set_settings(started.listener, 0, settings)
+}
+
+// The cookie of the peer's address, from the answer to a request.
+fn cookie_of_peer(peer: &[u8; 4]) -> [u8; 8] {
+    let mut request = [0u8; 1520];
+    let n = data::put_opening(&mut request, peer, data::PEER_PORT, &[], &[]);
+    let mut out = [0u8; 36];
+    take(
+        empty_listener(),
+        peer,
+        data::first(&request, n),
+        ISS,
+        &mut out,
+    );
+    [
+        out[26],
+        out[27],
+        out[28],
+        out[29],
+        out[30],
+        out[31],
+        out[32],
+        out[33],
+    ]
+}
+
+// The listener after one request more.
+fn with_connection(before: Outcome, peer: &[u8; 4], port: u16) -> Outcome {
+    let mut request = [0u8; 1520];
+    let n = data::put_opening(&mut request, peer, port, &[], &[]);
+    let mut out = [0u8; 36];
+    take(before, peer, data::first(&request, n), ISS, &mut out)
+}
+
+// A listener that has answered so many requests, from the ports 50,000 on. There are 64 slots.
+fn listener_with(peer: &[u8; 4], live: u64) -> Outcome {
+    let mut o = empty_listener();
+    let mut k: u64 = 0;
+    while k < live {
+        let next = with_connection(o, peer, (50000 + k % 64) as u16);
+        o = next;
+        k += 1;
+    }
+    o
+}
+
+// The early opening, at the start of a buffer of a segment's greatest length.
+fn put_early(out: &mut [u8; 1520], peer: &[u8; 4], payload: u64) -> usize {
+    let bytes = data::bytes();
+    data::put_opening(
+        out,
+        peer,
+        data::PEER_PORT,
+        &cookie_of_peer(peer),
+        data::first(&bytes, payload as usize),
+    )
+}
+
+// The loops. Two outcomes take turns, so that the loop copies no listener: a call reads it in the one and lays it in the other.
+
+// Each turn an opening and its abandon.
+fn open_and_abandon(before: Outcome, peer: &[u8; 4], count: u64, opening: &[u8]) -> u64 {
+    let mut out = [0u8; 36];
+    let mut last = before;
+    let mut digest: u64 = 0;
+    let mut turn: u64 = 0;
+    while turn < count {
+        let opened = take(last, peer, opening, iss_at(turn), &mut out);
+        digest = add(digest, opened, &out);
+        last = abandon_peer(opened, peer);
+        digest = add(digest, last, &out);
+        turn += 1;
+    }
+    digest
+}
+
+// Each turn a segment that leaves the table as it was.
+fn take_again(before: Outcome, peer: &[u8; 4], count: u64, seg: &[u8]) -> u64 {
+    let mut out = [0u8; 36];
+    let mut last = before;
+    let mut digest: u64 = 0;
+    let mut turn: u64 = 0;
+    while turn < count {
+        let odd = take(last, peer, seg, iss_at(turn), &mut out);
+        digest = add(digest, odd, &out);
+        turn += 1;
+        if turn == count {
+            return digest;
+        }
+        last = take(odd, peer, seg, iss_at(turn), &mut out);
+        digest = add(digest, last, &out);
+        turn += 1;
+    }
+    digest
+}
+
+// Each turn an opening, its completion and its close.
+fn complete_and_close(
+    before: Outcome,
+    peer: &[u8; 4],
+    count: u64,
+    opening: &[u8],
+    completion: &[u8],
+) -> u64 {
+    let mut out = [0u8; 36];
+    let mut last = before;
+    let mut digest: u64 = 0;
+    let mut turn: u64 = 0;
+    while turn < count {
+        let opened = take(last, peer, opening, ISS, &mut out);
+        digest = add(digest, opened, &out);
+        let completed = take(opened, peer, completion, iss_at(turn), &mut out);
+        digest = add(digest, completed, &out);
+        last = close_peer(completed, peer);
+        digest = add(digest, last, &out);
+        turn += 1;
+    }
+    digest
+}
+
+// Each turn the abandon of a name that is not in the table.
+fn abandon_again(before: Outcome, peer: &[u8; 4], count: u64) -> u64 {
+    let out = [0u8; 36];
+    let mut last = before;
+    let mut digest: u64 = 0;
+    let mut turn: u64 = 0;
+    while turn < count {
+        let odd = abandon_peer(last, peer);
+        digest = add(digest, odd, &out);
+        turn += 1;
+        if turn == count {
+            return digest;
+        }
+        last = abandon_peer(odd, peer);
+        digest = add(digest, last, &out);
+        turn += 1;
+    }
+    digest
+}
+
+// The works
+
+pub fn early(peer: &[u8; 4], count: u64, live: u64, payload: u64) -> u64 {
+    let mut opening = [0u8; 1520];
+    let n = put_early(&mut opening, peer, payload);
+    open_and_abandon(
+        listener_with(peer, live),
+        peer,
+        count,
+        data::first(&opening, n),
+    )
+}
+
+pub fn request(peer: &[u8; 4], count: u64, live: u64) -> u64 {
+    let mut opening = [0u8; 1520];
+    let n = data::put_opening(&mut opening, peer, data::PEER_PORT, &[], &[]);
+    open_and_abandon(
+        listener_with(peer, live),
+        peer,
+        count,
+        data::first(&opening, n),
+    )
+}
+
+pub fn repeat(peer: &[u8; 4], count: u64, live: u64, payload: u64) -> u64 {
+    let mut opening = [0u8; 1520];
+    let n = put_early(&mut opening, peer, payload);
+    let seg = data::first(&opening, n);
+    let mut out = [0u8; 36];
+    let opened = take(listener_with(peer, live), peer, seg, ISS, &mut out);
+    take_again(opened, peer, count, seg)
+}
+
+// The sequence number of a completion follows the bytes that its opening's answer accepts.
+pub fn completion(peer: &[u8; 4], count: u64, live: u64, payload: u64) -> u64 {
+    let mut opening = [0u8; 1520];
+    let n = put_early(&mut opening, peer, payload);
+    let seg = data::first(&opening, n);
+    let o = listener_with(peer, live);
+    let mut out = [0u8; 36];
+    let opened = take(o, peer, seg, ISS, &mut out);
+    let event = opened.event;
+    let seq = next_after(data::IRS, accepted_count(event));
+    complete_and_close(o, peer, count, seg, &data::completion(peer, seq, ISS + 1))
+}
+
+// The early opening with its last byte changed, so that its checksum is wrong.
+pub fn refusal(peer: &[u8; 4], count: u64, live: u64, payload: u64) -> u64 {
+    let mut opening = [0u8; 1520];
+    let n = put_early(&mut opening, peer, payload);
+    if 0 < n {
+        if n <= 1520 {
+            opening[n - 1] = opening[n - 1] ^ 1;
+        }
+    }
+    take_again(
+        listener_with(peer, live),
+        peer,
+        count,
+        data::first(&opening, n),
+    )
+}
+
+pub fn full(peer: &[u8; 4], count: u64, payload: u64) -> u64 {
+    let mut opening = [0u8; 1520];
+    let n = put_early(&mut opening, peer, payload);
+    take_again(
+        listener_with(peer, 64),
+        peer,
+        count,
+        data::first(&opening, n),
+    )
+}
+
+pub fn unknown(peer: &[u8; 4], count: u64, live: u64) -> u64 {
+    abandon_again(listener_with(peer, live), peer, count)
+}
