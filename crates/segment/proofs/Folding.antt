@@ -1,5 +1,5 @@
 -- The value of a sum whose carries are put off, and a checksum that is right by its making. Assumes nothing.
-use Prim.Native.Nat.{ℕ, _+_, _-_, _*_, _/_, _%_, _<_}
+use Prim.Native.Nat.{ℕ, _+_, _-_, _*_, _/_, _%_, _^_, _<_}
 use mathlib.Core.Path.{_≡_, ap, sym, _∙_}
 use mathlib.Core.List.{List, [], _∷_, _++_}
 use native.Mathlib.Nat.{add-zero, add-assoc}
@@ -7,36 +7,27 @@ use native.Mathlib.Omega.{arith}
 use lib.ListN.{length}
 use Rattle.segment.specs.Bytes.{Bytes, be16, word}
 use Rattle.segment.specs.Checksum.{onesAdd, onesSum, complement}
+use Rattle.segment.specs.Totals.{total, folded}
 use Rattle.segment.proofs.ByteLists.{bytes-append}
 
--- the word that a total of words comes to once its carries are added at the low end: 0 for 0 alone, else 1 to 65535
-unfoldable norm : ℕ → ℕ
-norm t = t - 65535 * ((t - 1) / 65535)
-
--- the words of some bytes as one total, carries put off
-unfoldable total : List ℕ → ℕ
-total [] = 0
-total (a ∷ []) = word a 0
-total (a ∷ b ∷ rest) = word a b + total rest
-
-fold16 : (x t : ℕ) → norm (x % 65536 + x / 65536 + t) ≡ norm (x + t)
-unfolding norm
+fold16 : (x t : ℕ) → folded (x % 65536 + x / 65536 + t) ≡ folded (x + t)
+unfolding folded
 fold16 x t = omega arith
 
-small : (x : ℕ) → x < 65536 → norm x ≡ x
-unfolding norm
+small : (x : ℕ) → x < 65536 → folded x ≡ x
+unfolding folded
 small x h = omega arith
 
-full : (t : ℕ) → norm (t + complement (norm t)) ≡ 65535
-unfolding norm
+full : (t : ℕ) → folded (t + complement (folded t)) ≡ 65535
+unfolding folded
 full t = omega arith
 
-sum-total : (sum : ℕ) (s : List ℕ) → norm (onesSum sum s) ≡ norm (sum + total s)
-unfolding onesSum total onesAdd norm
-sum-total sum [] = ap norm (sym (add-zero sum))
+sum-total : (sum : ℕ) (s : List ℕ) → folded (onesSum sum s) ≡ folded (sum + total s)
+unfolding onesSum total onesAdd folded
+sum-total sum [] = ap folded (sym (add-zero sum))
 sum-total sum (a ∷ []) = omega arith
 sum-total sum (a ∷ b ∷ rest) =
-    sum-total (onesAdd sum (word a b)) rest ∙ fold16 (sum + word a b) (total rest) ∙ ap norm (add-assoc sum (word a b) (total rest))
+    sum-total (onesAdd sum (word a b)) rest ∙ fold16 (sum + word a b) (total rest) ∙ ap folded (add-assoc sum (word a b) (total rest))
 
 -- the sum of bytes, from a word, is a word
 sum-small : (sum : ℕ) (s : List ℕ) → sum < 65536 → Bytes s → onesSum sum s < 65536
@@ -45,10 +36,19 @@ sum-small sum [] h b = h
 sum-small sum (x ∷ []) h b = omega arith
 sum-small sum (x ∷ y ∷ rest) h b = sum-small (onesAdd sum (word x y)) rest (omega arith) (b .1 .1)
 
-sum-norm : (s : List ℕ) → Bytes s → onesSum 0 s ≡ norm (total s)
-sum-norm s b =
+sum-folded : (s : List ℕ) → Bytes s → onesSum 0 s ≡ folded (total s)
+sum-folded s b =
     let e : 0 + total s ≡ total s = omega arith in
-    sym (small (onesSum 0 s) (sum-small 0 s (omega arith) b)) ∙ sum-total 0 s ∙ ap norm e
+    sym (small (onesSum 0 s) (sum-small 0 s (omega arith) b)) ∙ sum-total 0 s ∙ ap folded e
+
+-- a sum and a total of words, folded, are the sum
+pub run-sum : (sum : ℕ) (s : List ℕ) → sum < 65536 → Bytes s → folded (sum + total s) ≡ onesSum sum s
+run-sum sum s h b = sym (sum-total sum s) ∙ small (onesSum sum s) (sum-small sum s h b)
+
+-- two steps fold a number of 32 bits
+pub two-steps : (x t : ℕ) → x < 2 ^ 32 → t ≡ x % 65536 + x / 65536 → t % 65536 + t / 65536 ≡ folded x
+unfolding folded
+two-steps x t h e = omega arith
 
 total-append : (a b : List ℕ) → length a % 2 ≡ 0 → total (a ++ b) ≡ total a + total b
 unfolding total
@@ -67,6 +67,6 @@ sum-with-complement a b h p q =
     let n = total a + total b in
     let t : total (a ++ (0 ∷ 0 ∷ b)) ≡ n = omega (arith, total-append a (0 ∷ 0 ∷ b) h) in
     let u : total (a ++ (x ∷ y ∷ b)) ≡ n + complement z = omega (arith, total-append a (x ∷ y ∷ b) h) in
-    let j : z ≡ norm n = sum-norm (a ++ (0 ∷ 0 ∷ b)) (bytes-append a (0 ∷ 0 ∷ b) p (omega arith, (omega arith, q))) ∙ ap norm t in
-    sum-norm (a ++ (x ∷ y ∷ b)) (bytes-append a (x ∷ y ∷ b) p (omega arith, (omega arith, q))) ∙ ap norm u
-    ∙ ap (λ (k : ℕ). norm (n + complement k)) j ∙ full n
+    let j : z ≡ folded n = sum-folded (a ++ (0 ∷ 0 ∷ b)) (bytes-append a (0 ∷ 0 ∷ b) p (omega arith, (omega arith, q))) ∙ ap folded t in
+    sum-folded (a ++ (x ∷ y ∷ b)) (bytes-append a (x ∷ y ∷ b) p (omega arith, (omega arith, q))) ∙ ap folded u
+    ∙ ap (λ (k : ℕ). folded (n + complement k)) j ∙ full n

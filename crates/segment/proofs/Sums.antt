@@ -1,13 +1,14 @@
--- The laws of `onesSum`: one turn at a place, and the sum of two parts. Assumes nothing.
+-- One turn of a total at a place, and the sum of two parts. Assumes nothing.
 use Prim.Native.Nat.{ℕ, suc, _+_, _%_, _<_, _≤_}
 use mathlib.Core.Path.{_≡_, refl, ap, sym, _∙_}
 use mathlib.Core.List.{List, [], _∷_, _++_}
 use native.Mathlib.Numerals.{add-one}
 use native.Mathlib.Omega.{arith}
-use lib.ListN.{length, drop, drop-of-length-le}
-use lib.Seq.{drop-cons}
+use lib.ListN.{length, take, drop, length-drop, take-append-drop, drop-of-length-le}
+use lib.Seq.{drop-cons, drop-drop, length-take-le}
 use Rattle.segment.specs.Bytes.{byteAt, wordAt, word}
 use Rattle.segment.specs.Checksum.{onesAdd, onesSum}
+use Rattle.segment.specs.Totals.{total}
 
 -- the list from i on, where two more bytes stand, and where one does
 drop-two : (s : List ℕ) (i : ℕ) → i + 1 < length s → drop i s ≡ byteAt s i ∷ byteAt s (i + 1) ∷ drop (i + 2) s
@@ -26,18 +27,18 @@ drop-one s i h =
     let b : length s ≤ suc i = omega arith in
     drop-cons s i 0 a ∙ ap (λ (t : List ℕ). byteAt s i ∷ t) (drop-of-length-le s b)
 
--- the sum from i on: two more bytes, one, none
-pub two : (sum : ℕ) (s : List ℕ) (i : ℕ) → i + 1 < length s → onesSum sum (drop i s) ≡ onesSum (onesAdd sum (wordAt s i)) (drop (i + 2) s)
-unfolding onesSum
-two sum s i h = ap (onesSum sum) (drop-two s i h)
+-- the total from i on: two more bytes, one, none
+pub total-two : (s : List ℕ) (i : ℕ) → i + 1 < length s → total (drop i s) ≡ wordAt s i + total (drop (i + 2) s)
+unfolding total
+total-two s i h = ap total (drop-two s i h)
 
-pub last : (sum : ℕ) (s : List ℕ) (i : ℕ) → i + 1 ≡ length s → onesSum sum (drop i s) ≡ onesAdd sum (word (byteAt s i) 0)
-unfolding onesSum
-last sum s i h = ap (onesSum sum) (drop-one s i h)
+pub total-last : (s : List ℕ) (i : ℕ) → i + 1 ≡ length s → total (drop i s) ≡ word (byteAt s i) 0
+unfolding total
+total-last s i h = ap total (drop-one s i h)
 
-pub none : (sum : ℕ) (s : List ℕ) (i : ℕ) → length s ≤ i → onesSum sum (drop i s) ≡ sum
-unfolding onesSum
-none sum s i h = ap (onesSum sum) (drop-of-length-le s h)
+pub total-none : (s : List ℕ) (i : ℕ) → length s ≤ i → total (drop i s) ≡ 0
+unfolding total
+total-none s i h = ap total (drop-of-length-le s h)
 
 -- the sum goes on after an even number of bytes
 pub sum-append : (sum : ℕ) (a b : List ℕ) → length a % 2 ≡ 0 → onesSum sum (a ++ b) ≡ onesSum (onesSum sum a) b
@@ -45,3 +46,13 @@ unfolding onesSum
 sum-append sum [] b h = refl
 sum-append sum (x ∷ []) b h = absurd (omega arith)
 sum-append sum (x ∷ y ∷ rest) b h = sum-append (onesAdd sum (word x y)) rest b (omega arith)
+
+-- the sum from i on: a run of k bytes, an even number, and what follows it
+pub run-on : (acc : ℕ) (s : List ℕ) (i k : ℕ) → i + k ≤ length s → k % 2 ≡ 0 → onesSum acc (drop i s) ≡ onesSum (onesSum acc (take k (drop i s))) (drop (i + k) s)
+run-on acc s i k h e =
+    let d = drop i s in
+    let m : k ≤ length d = simp length-drop (omega arith) in
+    let l : length (take k d) ≡ k = length-take-le k d m in
+    let even : length (take k d) % 2 ≡ 0 = rw l e in
+    ap (onesSum acc) (sym (take-append-drop k d)) ∙ sum-append acc (take k d) (drop k d) even
+    ∙ ap (onesSum (onesSum acc (take k d))) (drop-drop k i s)

@@ -6,5 +6,6 @@ pub mod Header
 pub mod Options
 pub mod Found
 pub mod Checksum
+pub mod Totals
 pub mod Sequence
 pub mod Write

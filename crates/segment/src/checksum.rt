@@ -2,13 +2,52 @@
 use crate::number::word16;
 ghost use mathlib.Core.Path.{_≡_};
 ghost use mathlib.Core.Bool.{true};
-ghost use Rattle.segment.specs.Checksum.{onesAdd, onesSum, oneFamily, pseudoHeader, checksumRight};
+ghost use Prim.Native.Nat.{_*_, _≤_, _<_};
+ghost use lib.ListN.{length};
+ghost use Rattle.segment.specs.Checksum.{onesSum, oneFamily, pseudoHeader, checksumRight};
+ghost use Rattle.segment.specs.Totals.{total, folded};
 
-fn ones_add(a: u16, b: u16) -> u16
-    ensures { λ r. ⌜ r ≡ onesAdd a b ⌝ }
+// How many bytes are added up before the carries are added too.
+const RUN: usize = 65536;
+
+// A total with its carries added at the low end.
+fn fold(total: u32) -> u16
+    ensures { λ r. ⌜ r ≡ folded total ⌝ }
 {
-    let t = (a as u32) + (b as u32);
+    let t = total % 65536 + total / 65536;
     (t % 65536 + t / 65536) as u16
+}
+
+fn wide(x: u16) -> u32
+    ensures { λ r. ⌜ (r ≡ x) × (x < 65536) ⌝ }
+{
+    x as u32
+}
+
+// The words of `s` added up, an odd last byte padded with a zero. With the carries put off, a turn does not wait for the one before.
+fn total_of(s: &[u8]) -> u32
+    requires { ⌜ length (now s) ≤ 65536 ⌝ }
+    ensures { λ r. ⌜ (r ≡ total (now (s .entry))) × (r ≤ 32768 * 65535) ⌝ }
+{
+    let pairs = s.len() / 2;
+    let mut sum: u32 = 0;
+    let mut k = 0;
+    while k < pairs {
+        sum += wide(word16(s[2 * k], s[2 * k + 1]));
+        k += 1;
+    }
+    if s.len() % 2 == 1 {
+        sum += wide(word16(s[2 * pairs], 0));
+    }
+    sum
+}
+
+// The words of at most RUN bytes added to a sum.
+fn add_run(sum: u16, s: &[u8]) -> u16
+    requires { ⌜ length (now s) ≤ 65536 ⌝ }
+    ensures { λ r. ⌜ r ≡ onesSum sum (now (s .entry)) ⌝ }
+{
+    fold(wide(sum) + total_of(s))
 }
 
 // The words of `s` added to a sum, an odd last byte padded with a zero.
@@ -18,14 +57,12 @@ pub fn add_bytes(sum: u16, s: &[u8]) -> u16
     let n = s.len();
     let mut acc = sum;
     let mut i = 0;
-    while 2 <= n - i {
-        acc = ones_add(acc, word16(s[i], s[i + 1]));
-        i += 2;
+    while RUN < n - i {
+        let end = i + RUN;
+        acc = add_run(acc, &s[i..end]);
+        i = end;
     }
-    if i < n {
-        acc = ones_add(acc, word16(s[i], 0));
-    }
-    acc
+    add_run(acc, &s[i..])
 }
 
 // Whether two addresses are both IPv4's or both IPv6's.

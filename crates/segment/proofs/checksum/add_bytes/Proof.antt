@@ -1,11 +1,12 @@
--- `segment::checksum::add_bytes` meets its contract.
+-- `segment::checksum::add_bytes` meets its contract: the sum goes on after each run.
 -- Assumes nothing.
+use Prim.Native.Nat.{_+_, _-_, _≤_}
+use mathlib.Core.Path.{_≡_, refl, sym, _∙_}
 use native.Mathlib.Omega.{arith}
-use Prim.Native.Nat.{_-_, _≤_}
-use mathlib.Core.Path.{_≡_, refl}
-use lib.ListN.{length, drop}
+use lib.ListN.{length, take, drop, length-drop}
+use lib.Seq.{take-all}
 use Rattle.segment.specs.Checksum.{onesSum}
-use Rattle.segment.proofs.Sums.{two, last, none}
+use Rattle.segment.proofs.Sums.{run-on}
 use borrow.Author.Needs.{needs}
 use Rattle.segment.proofs.checksum.add_bytes.Statement.{statement}
 use Rattle.segment.proofs.checksum.add_bytes.Tie as tie
@@ -22,54 +23,50 @@ loop-holds c = (refl, (search needs, refl))
 sub-loop : tie.Need-sub-loop Inv-loop μ-loop
 sub-loop c = search needs
 
-shared-slice-read-word16 : tie.Need-shared-slice-read-word16 Inv-loop μ-loop
-shared-slice-read-word16 c = search needs
+add-end : tie.Need-add-end Inv-loop μ-loop
+add-end c = search needs
 
-add-word16 : tie.Need-add-word16 Inv-loop μ-loop
-add-word16 c = search needs
+sub-add-run : tie.Need-sub-add-run Inv-loop μ-loop
+sub-add-run c = search needs
 
-shared-slice-read-word16-2 : tie.Need-shared-slice-read-word16-2 Inv-loop μ-loop
-shared-slice-read-word16-2 c = search needs
+part-add-run-start : tie.Need-part-add-run-start Inv-loop μ-loop
+part-add-run-start c = search needs
 
-word16-requires : tie.Need-word16-requires Inv-loop μ-loop
-word16-requires c κs = search needs
+part-add-run-end : tie.Need-part-add-run-end Inv-loop μ-loop
+part-add-run-end c = search needs
 
-ones-add-requires : tie.Need-ones-add-requires Inv-loop μ-loop
-ones-add-requires c κs = search needs
-
-add-i : tie.Need-add-i Inv-loop μ-loop
-add-i c = search needs
+add-run-requires : tie.Need-add-run-requires Inv-loop μ-loop
+add-run-requires c κs = search needs
 
 loop-less : tie.Need-loop-less Inv-loop μ-loop
 loop-less c = search needs
 
 loop-again : tie.Need-loop-again Inv-loop μ-loop
 loop-again c =
-    let q = c .before .before .before .before .before .loop in
-    let e = two (q .acc) (c .before .before .before .before .before .before .before .args .s .now) (q .i) (omega arith) in
-    (refl, (omega arith, cc))
+    let q = c .before .before .before .loop in
+    let s = c .before .before .before .before .before .args .s .now in
+    let k : q .i + 65536 - q .i ≡ 65536 = omega arith in
+    let e = run-on (q .acc) s (q .i) 65536 (omega arith) refl in
+    (refl, (omega arith, rw (c .add-run .ensures, k) (sym e ∙ q .inv .1 .1)))
 
-shared-slice-read-word16-3 : tie.Need-shared-slice-read-word16-3 Inv-loop μ-loop
-shared-slice-read-word16-3 c = search needs
+sub-add-run-2 : tie.Need-sub-add-run-2 Inv-loop μ-loop
+sub-add-run-2 c = search needs
 
-word16-requires-2 : tie.Need-word16-requires-2 Inv-loop μ-loop
-word16-requires-2 c κs = search needs
+part-add-run-start-2 : tie.Need-part-add-run-start-2 Inv-loop μ-loop
+part-add-run-start-2 c = search needs
 
-ones-add-requires-2 : tie.Need-ones-add-requires-2 Inv-loop μ-loop
-ones-add-requires-2 c κs = search needs
+part-add-run-end-2 : tie.Need-part-add-run-end-2 Inv-loop μ-loop
+part-add-run-end-2 c = search needs
+
+add-run-requires-2 : tie.Need-add-run-requires-2 Inv-loop μ-loop
+add-run-requires-2 c κs = search needs
 
 returns : tie.Need-returns Inv-loop μ-loop
 returns c =
-    let q = c .before .before .before .before .before .loop in
-    let s = c .before .before .before .before .before .before .before .args .s .now in
-    let e = last (q .acc) s (q .i) (omega arith) in
-    cc
-
-returns-2 : tie.Need-returns-2 Inv-loop μ-loop
-returns-2 c =
-    let q = c .before .before .loop in
-    let e = none (q .acc) (c .before .before .before .before .args .s .now) (q .i) (omega arith) in
-    cc
+    let q = c .before .before .before .loop in
+    let s = c .before .before .before .before .before .args .s .now in
+    let t : take (length s - q .i) (drop (q .i) s) ≡ drop (q .i) s = take-all (length s - q .i) (drop (q .i) s) (omega (arith, length-drop (q .i) s)) in
+    c .add-run2 .ensures ∙ rw t (q .inv .1 .1)
 
 pub add-bytes-spec : {M : Type 1} → statement M
 add-bytes-spec =
@@ -79,16 +76,15 @@ add-bytes-spec =
     μ-loop
     loop-holds
     sub-loop
-    shared-slice-read-word16
-    add-word16
-    shared-slice-read-word16-2
-    word16-requires
-    ones-add-requires
-    add-i
+    add-end
+    sub-add-run
+    part-add-run-start
+    part-add-run-end
+    add-run-requires
     loop-less
     loop-again
-    shared-slice-read-word16-3
-    word16-requires-2
-    ones-add-requires-2
-    returns
-    returns-2)
+    sub-add-run-2
+    part-add-run-start-2
+    part-add-run-end-2
+    add-run-requires-2
+    returns)

@@ -1,0 +1,23 @@
+-- `segment::checksum::fold` meets its contract: two steps are enough for 32 bits.
+-- Assumes nothing.
+use mathlib.Core.Path.{refl}
+use native.Mathlib.Omega.{arith}
+use Rattle.segment.proofs.Folding.{two-steps}
+use borrow.Author.Needs.{needs}
+use Rattle.segment.proofs.checksum.fold.Statement.{statement}
+use Rattle.segment.proofs.checksum.fold.Tie as tie
+
+add-t : tie.Need-add-t
+add-t c = search needs
+
+add-result : tie.Need-add-result
+add-result c = search needs
+
+cast-result : tie.Need-cast-result
+cast-result c = search needs
+
+returns : tie.Need-returns
+returns c = two-steps (c .args .total) _ (omega arith) refl
+
+pub fold-spec : {M : Type 1} → statement M
+fold-spec = tie.close (tie.spec add-t add-result cast-result returns)
