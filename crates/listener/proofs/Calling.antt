@@ -1,12 +1,12 @@
 -- What each call answers, refused and done, from what its checks come to. Assumes nothing.
-use Prim.Native.Nat.{ℕ, _≤_}
+use Prim.Native.Nat.{ℕ, _≤_, _<_}
 use mathlib.Core.Path.{_≡_, refl, sym, ap, _∙_}
-use mathlib.Core.Bool.{Bool, true, false, cond, not, false≢true}
+use mathlib.Core.Bool.{Bool, true, false, cond, not, _||_, false≢true}
 use mathlib.Core.List.{List, [], _++_}
 use native.Mathlib.Omega.{arith}
-use lib.Dec.{leb}
-use lib.ListN.{length}
-use borrow.Author.Tests.{eq-eqb, ne-eqb, leb-true, not-false}
+use lib.Dec.{leb, ltb}
+use lib.ListN.{length, getD}
+use borrow.Author.Tests.{eq-eqb, ne-eqb, leb-true, ltb-true, not-true, not-false}
 use Rattle.segment.specs.Refusal.{refusal}
 use Rattle.segment.specs.Header.{fieldsOf, kindOf}
 use Rattle.segment.specs.Write.{answerBytes, overwrite}
@@ -16,6 +16,7 @@ use Rattle.segment.specs.declared.refusal.Check.{Check}
 use Rattle.segment.specs.declared.refusal.Check.the-variants.{Clear, Refused}
 use Rattle.segment.specs.declared.header.Header.{Header}
 use Rattle.segment.specs.declared.header.Kind.{Kind}
+use Rattle.segment.specs.declared.header.Kind.the-variants.{Syn, Rst, Ack, Other}
 use Rattle.segment.proofs.Bools.{and-true}
 use Rattle.segment.proofs.Exchange.{answer-without}
 use Rattle.endpoint.specs.Address.{Peer, block}
@@ -23,12 +24,14 @@ use Rattle.endpoint.specs.Checks.{isUntimely, timely, addressed}
 use Rattle.endpoint.proofs.Blocks.{family-short}
 use Rattle.endpoint.proofs.Clear.{every-check}
 use Rattle.endpoint.proofs.Chain.{stopped, passed}
+use Rattle.endpoint.proofs.Sums.{present}
 use Rattle.listener.specs.Cookie.{cookieUnder}
-use Rattle.listener.specs.Table.{isWaiting, withStatus, scanOf}
+use Rattle.listener.specs.Table.{isWaiting, isFree, freeSlot, withStatus, scanOf}
+use Rattle.listener.specs.Scan.{withinTable, slotFound, placeOf}
 use Rattle.listener.specs.Call.{Call, segment, settings, key, abandon, resend, close, sender}
-use Rattle.listener.specs.View.{ownAddress, viewFrom, view}
+use Rattle.listener.specs.View.{ownAddress, slotAt, viewFrom, view, known}
 use Rattle.listener.specs.Refusals.{inRange, isKey, isReleasable, releaseOf, roomy, kindChecks, wireChecks, judged, received}
-use Rattle.listener.specs.Step.{segmentEvent, slotAfter, freshWith, answerFrom, answerTo, isAnswered, segmentOutput, segmentAfter, moved, put, freed, inForce, withKey, after, step, outputOf}
+use Rattle.listener.specs.Step.{isEarly, accepts, newEvent, openingEvent, segmentEvent, slotAfter, freshWith, answerFrom, answerTo, isAnswered, segmentOutput, segmentAfter, moved, put, freed, inForce, withKey, after, step, outputOf}
 use Rattle.listener.specs.declared.state.Settings.{Settings}
 use Rattle.listener.specs.declared.state.Home.{Home}
 use Rattle.listener.specs.declared.state.View.{View}
@@ -38,11 +41,14 @@ use Rattle.listener.specs.declared.answer.Event.the-variants as events
 use Rattle.listener.specs.declared.answer.Outcome.{Outcome}
 use Rattle.listener.specs.declared.action.Action.{Action}
 use Rattle.listener.specs.declared.checks.Received.the-variants.{Dropped, Read}
+use Rattle.listener.specs.declared.table.Status.{Status}
 use Rattle.listener.specs.declared.table.Status.the-variants.{Free}
+use Rattle.listener.specs.declared.table.Status.the-variants as statuses
 use Rattle.listener.specs.declared.table.Slot.{Slot}
 use Rattle.listener.specs.declared.table.Scan.{Scan}
 use Rattle.listener.proofs.Judging.{judged-settings, judged-key, judged-release, judged-resend, judged-segment, step-refused, step-done, output-refused, output-done}
 use Rattle.listener.proofs.Acting.{Acts}
+use Rattle.listener.proofs.Scanning.{Seen, seen-end, slot-read, in-table}
 
 abbrev pub refusedWith : Listener → Refusal → Outcome
 refusedWith l r = record { listener = l; event = events.Refused r; written = 0 }
@@ -234,14 +240,35 @@ pub written-over : {l : Listener} {e : Event} {n : ℕ} {s : Outcome} {bytes the
     → (record { listener = l; event = e; written = n } ≡ s) × (last ≡ overwrite bytes out)
 written-over out q w = (rw (w .0) (q .0), w .1 ∙ ap (λ (z : List ℕ). overwrite z out) (sym (q .1)))
 
--- What was looked up by a name's block and port, as code does it, is what the definitions look up.
-module _ (l : Listener) (t : ℕ) (a : List ℕ) (p : ℕ) {b : List ℕ} {scan : Scan} {v′ : View} (eb : b ≡ block a) (ef : scan ≡ scanOf t b p (l .slots))
-    (ev : v′ ≡ viewFrom l t scan) where
-  pub view-is : v′ ≡ view l t (record { address = a; port = p })
-  view-is = rw (ev, ef, eb)
+-- What the scan of a call has found when it has passed the table, and the peer's slot, read at its place
+pub looked : (l : Listener) (t : ℕ) (b : List ℕ) (p i : ℕ) (scan : Scan) (at : ℕ) (d : Slot) {r : Slot} → length (l .slots) ≡ 64 → 64 ≤ i
+    → Seen t b p (l .slots) i scan → (at ≡ withinTable (scan .place)) × (at < 64) → r ≡ slotFound (scan .place) (getD (l .slots) at d)
+    → (scan ≡ scanOf t b p (l .slots)) × (r ≡ slotAt l (scan .place))
+looked l t b p i scan at d n past seen w e =
+    let near = w .1 in
+    (seen-end t b p (l .slots) i scan (omega arith) seen, slot-read (l .slots) (scan .place) n (w .0) (present (l .slots) at d freeSlot (omega arith)) e)
 
-  pub freed-is : {s : Slot} {n : Listener} → s ≡ withStatus (v′ .slot) Free → n ≡ put l t (scan .place) s → n ≡ freed l t (record { address = a; port = p })
-  freed-is e m = rw (m, e, ev, ef, eb)
+-- What was looked up by a name's block and port, as code does it, is what the definitions look up.
+module _ (l : Listener) (t : ℕ) (a : List ℕ) (p : ℕ) {b : List ℕ} {scan : Scan} {s : Slot} (eb : b ≡ block a) (ef : scan ≡ scanOf t b p (l .slots))
+    (es : s ≡ slotAt l (scan .place)) where
+  pub peer-slot : s ≡ view l t (record { address = a; port = p }) .slot
+  peer-slot = rw (es, ef, eb)
+
+  pub freed-is : {f : Slot} → f ≡ withStatus s Free → put l t (scan .place) f ≡ freed l t (record { address = a; port = p })
+  freed-is e = rw (e, es, ef, eb)
+
+-- a connection that a call by name changes stands in the table
+module _ (l : Listener) (n : length (l .slots) ≡ 64) (i : ℕ) {s : Slot} (es : s ≡ slotAt l i) where
+  pub released-within : (e : Bool) → isReleasable e (s .status) ≡ true → i < 64
+  released-within e q = in-table (l .slots) i n (rw es at (go e (s .status) q))
+    where
+      go : (e : Bool) (x : Status) → isReleasable e x ≡ true → isFree x ≡ false
+      go e statuses.SynReceived q = refl
+      go e (statuses.FastOpen n) q = refl
+      go e (statuses.ResetHeld end) q = refl
+      go e statuses.Established q = refl
+      go true Free q = absurd (false≢true q)
+      go false Free q = absurd (false≢true q)
 
 -- a resent answer, from the slot that was looked up
 module _ (l : Listener) (t : ℕ) (a : List ℕ) (p room : ℕ) (out : List ℕ) where
@@ -251,14 +278,60 @@ module _ (l : Listener) (t : ℕ) (a : List ℕ) (p room : ℕ) (out : List ℕ)
   pub resent : {s : Outcome} {bytes : List ℕ}
       → (s ≡ record { listener = moved l t (l .slots); event = events.Done; written = length (answerTo here a (here .slot) false room) })
       × (bytes ≡ answerTo here a (here .slot) false room)
-      → {v′ : View} → v′ ≡ here → {n : Listener} → n ≡ moved l t (l .slots) → {w : ℕ} {last : List ℕ} (cookie : List ℕ)
-      → (w ≡ length (answerBytes (ownAddress (l .home)) a (answerFrom (l .home) (v′ .settings .mss) (v′ .slot) false) cookie room))
-      × (last ≡ overwrite (answerBytes (ownAddress (l .home)) a (answerFrom (l .home) (v′ .settings .mss) (v′ .slot) false) cookie room) out)
-      → (record { listener = n; event = events.Done; written = w } ≡ s) × (last ≡ overwrite bytes out)
-  resent q ev en cookie e′ =
+      → {x : Slot} → x ≡ here .slot → {w : ℕ} {last : List ℕ} (cookie : List ℕ)
+      → (w ≡ length (answerBytes (ownAddress (l .home)) a (answerFrom (l .home) (l .settings .mss) x false) cookie room))
+      × (last ≡ overwrite (answerBytes (ownAddress (l .home)) a (answerFrom (l .home) (l .settings .mss) x false) cookie room) out)
+      → (record { listener = moved l t (l .slots); event = events.Done; written = w } ≡ s) × (last ≡ overwrite bytes out)
+  resent q ex cookie e′ =
       let same = any-cookie (ownAddress (l .home)) a here (here .slot) false cookie (cookieUnder (here .keys .present) (block a)) room (λ x. absurd (false≢true x)) in
-      let f = rw (ev, same) at e′ in
-      (rw (en, f .0) (sym (q .0)), f .1 ∙ ap (λ (z : List ℕ). overwrite z out) (sym (q .1)))
+      let f = rw (ex, same) at e′ in
+      (rw (f .0) (sym (q .0)), f .1 ∙ ap (λ (z : List ℕ). overwrite z out) (sym (q .1)))
+
+-- the view of a call, made of its parts
+pub viewed : (l : Listener) (t : ℕ) (scan : Scan) {s : Slot} {v′ : View}
+    → v′ ≡ record { home = l .home; untimely = isUntimely (l .clock) t; settings = l .settings; keys = l .keys; slot = s; vacant = ltb (scan .free) 64; below = ltb (scan .pending) (l .settings .limit) }
+    → s ≡ slotAt l (scan .place) → v′ ≡ viewFrom l t scan
+viewed l t scan e q = rw q at e
+
+-- the place that a done segment changes is in the table
+module _ (l : Listener) (t : ℕ) (scan : Scan) (n : length (l .slots) ≡ 64) where
+  abbrev its : View
+  its = viewFrom l t scan
+
+  waits : (x : Status) → isWaiting x ≡ true → isFree x ≡ false
+  waits Free q = absurd (false≢true q)
+  waits statuses.SynReceived q = refl
+  waits (statuses.FastOpen n) q = refl
+  waits (statuses.ResetHeld end) q = refl
+  waits statuses.Established q = refl
+
+  pub place-within : (h : Header) (k : Kind) (b seg : List ℕ) → refusal (kindChecks its h k) ≡ Clear → placeOf (segmentEvent its b seg k) scan < 64
+  place-within h Syn b seg clear = go (known its) refl
+    where
+      free : known its ≡ false → scan .free < 64
+      free f =
+          let some : known its || ltb (scan .free) 64 ≡ true = not-false _ (every-check (kindChecks its h Syn) clear .1 .0) in
+          ltb-true (scan .free) 64 (rw f at some)
+
+      new : (x : Bool) (m : ℕ) → scan .free < 64 → placeOf (newEvent x m) scan < 64
+      new true m f = f
+      new false m f = f
+
+      go : (x : Bool) → known its ≡ x → placeOf (openingEvent x its b seg) scan < 64
+      go true f = in-table (l .slots) (scan .place) n (not-true _ f)
+      go false f = new (isEarly its b seg) (accepts (its .settings) seg) (free f)
+  place-within h Ack b seg clear = in-table (l .slots) (scan .place) n (waits (its .slot .status) (not-false _ (every-check (kindChecks its h Ack) clear .0)))
+  place-within h Rst b seg clear = in-table (l .slots) (scan .place) n (waits (its .slot .status) (not-false _ (every-check (kindChecks its h Rst) clear .0)))
+  place-within h Other b seg clear = absurd (false≢true (sym (every-check (kindChecks its h Other) clear .0)))
+
+  pub changed-is : (e : Event) (s : Slot) → placeOf e scan < 64 → put l t (placeOf e scan) s ≡ segmentAfter l t scan e s
+  changed-is (events.FastOpen n) s h = refl
+  changed-is events.Regular s h = refl
+  changed-is events.Retransmission s h = refl
+  changed-is events.Completed s h = refl
+  changed-is events.WasReset s h = refl
+  changed-is events.Done s h = absurd (omega arith)
+  changed-is (events.Refused r) s h = absurd (omega arith)
 
 -- A segment that passed the checks before its kind, with what was read and looked up
 module _ (l : Listener) (t : ℕ) (src seg : List ℕ) (iss room : ℕ) (first : refusal (wireChecks (l .home) (isUntimely (l .clock) t) src seg room) ≡ Clear)
@@ -268,19 +341,27 @@ module _ (l : Listener) (t : ℕ) (src seg : List ℕ) (iss room : ℕ) (first :
       → (step l (segment t src seg iss room) ≡ refusedWith l r) × (outputOf l (segment t src seg iss room) ≡ [])
   taken-refused q = segment-refused l t src seg iss room first (rw (ek, ev, ef, eb, eh) at q)
 
-  module _ (second : refusal (kindChecks v′ h k) ≡ Clear) (act : Action) (acts : Acts v′ t b h iss seg (segmentEvent v′ b seg k) act)
-      {next : Listener} (moves : next ≡ segmentAfter l t scan (act .event) (act .slot)) where
+  module _ (n : length (l .slots) ≡ 64) (second : refusal (kindChecks v′ h k) ≡ Clear) (act : Action) (acts : Acts v′ t b h iss seg (segmentEvent v′ b seg k) act)
+      {i : ℕ} (ei : i ≡ placeOf (act .event) scan) where
+    event-within : placeOf (act .event) scan < 64
+    event-within = rw (acts .0, ev) (place-within l t scan n h k b seg (rw ev at second))
+
+    pub taken-within : i < 64
+    taken-within = rw ei event-within
+
+    moves : put l t i (act .slot) ≡ segmentAfter l t scan (act .event) (act .slot)
+    moves = rw ei (changed-is l t scan n (act .event) (act .slot) event-within)
+
     pub taken-unanswered : isAnswered (act .event) ≡ false
-        → (record { listener = next; event = act .event; written = 0 } ≡ step l (segment t src seg iss room)) × (outputOf l (segment t src seg iss room) ≡ [])
+        → (record { listener = put l t i (act .slot); event = act .event; written = 0 } ≡ step l (segment t src seg iss room)) × (outputOf l (segment t src seg iss room) ≡ [])
     taken-unanswered q =
         segment-unanswered l t src seg iss room first (rw (ek, ev, ef, eb, eh) at second) act (rw (ek, ev, ef, eb, eh) at acts) (rw (ef, eb, eh) at moves) q
 
     pub taken-answered : isAnswered (act .event) ≡ true
-        → let bytes = answerBytes (ownAddress (v′ .home)) src (answerFrom (v′ .home) (v′ .settings .mss) (act .slot) (act .fresh)) (act .cookie) room in
-        (record { listener = next; event = act .event; written = length bytes } ≡ step l (segment t src seg iss room)) × (outputOf l (segment t src seg iss room) ≡ bytes)
+        → let bytes = answerBytes (ownAddress (l .home)) src (answerFrom (l .home) (l .settings .mss) (act .slot) (act .fresh)) (act .cookie) room in
+        (record { listener = put l t i (act .slot); event = act .event; written = length bytes } ≡ step l (segment t src seg iss room)) × (outputOf l (segment t src seg iss room) ≡ bytes)
     taken-answered q =
-        rw ev
-        (segment-answered l t src seg iss room first (rw (ek, ev, ef, eb, eh) at second) act (rw (ek, ev, ef, eb, eh) at acts) (rw (ef, eb, eh) at moves) q)
+        segment-answered l t src seg iss room first (rw (ek, ev, ef, eb, eh) at second) act (rw (ek, ev, ef, eb, eh) at acts) (rw (ef, eb, eh) at moves) q
 
 -- what `received` says of the checks
 pub was-dropped : (c : Check) (h : Header) {r : Refusal} → received c h ≡ Dropped r → c ≡ Refused r

@@ -1,17 +1,18 @@
 -- One scan of the table finds what `scanOf` says. Assumes nothing.
 use Prim.Native.Nat.{ℕ, suc, _+_, _≤_, _<_}
-use mathlib.Core.Path.{_≡_, refl, ap, _∙_}
-use mathlib.Core.Bool.{Bool, true, false, cond, not}
+use mathlib.Core.Path.{_≡_, refl, sym, ap, _∙_}
+use mathlib.Core.Bool.{Bool, true, false, cond, not, false≢true}
 use mathlib.Core.List.{List, [], _∷_}
 use native.Mathlib.Omega.{arith}
 use native.Mathlib.Numerals.{add-one}
 use lib.Dec.{ltb}
-use lib.ListN.{length, drop, getD, drop-of-length-le}
+use lib.ListN.{length, drop, getD, drop-of-length-le, List·getD-eq-default}
 use lib.Seq.{drop-cons}
-use borrow.Author.Tests.{ltb-false, lt-ltb}
+use borrow.Author.Tests.{ltb-true, ltb-false, lt-ltb}
 use Rattle.endpoint.specs.Lists.{bit, tally, firstIndex}
-use Rattle.listener.specs.Table.{isLive, isPending, freeSlot, holdsPeer, scanOf}
-use Rattle.listener.specs.Scan.{firstPlace, countIf, seenWith}
+use Rattle.endpoint.proofs.Sums.{present}
+use Rattle.listener.specs.Table.{isLive, isPending, isFree, freeSlot, holdsPeer, scanOf}
+use Rattle.listener.specs.Scan.{firstPlace, countIf, seenWith, nothingSeen, withinTable, slotFound}
 use Rattle.listener.specs.declared.table.Slot.{Slot}
 use Rattle.listener.specs.declared.table.Scan.{Scan}
 
@@ -80,13 +81,13 @@ module _ (t : ℕ) (b : List ℕ) (port : ℕ) (slots : List Slot) where
     pub pending : seen .pending + tally pends (drop i slots) ≡ tally pends slots
     pub few : seen .pending ≤ i
 
-  pub seen-start : length slots ≡ 64 → Seen 0 (record { place = 64; free = 64; pending = 0 })
+  pub seen-start : length slots ≡ 64 → Seen 0 nothingSeen
   seen-start n = record { place = first-start (holdsPeer t b port) slots n; free = first-start vacant slots n; pending = omega arith; few = omega arith }
 
-  pub seen-on : (i : ℕ) (seen next : Scan) → i < length slots → Seen i seen → next ≡ seenWith seen i t b port (getD slots i freeSlot) → Seen (i + 1) next
+  pub seen-on : (i : ℕ) (seen next : Scan) (d : Slot) → i < length slots → Seen i seen → next ≡ seenWith seen i t b port (getD slots i d) → Seen (i + 1) next
   unfolding seenWith
-  seen-on i seen next h k e =
-      rw e record {
+  seen-on i seen next d h k e =
+      rw (e, present slots i d freeSlot h) record {
         place = first-on (holdsPeer t b port) slots i (seen .place) _ h (k .place);
         free = first-on vacant slots i (seen .free) _ h (k .free);
         pending = count-on pends slots i (seen .pending) _ h (k .pending);
@@ -99,3 +100,41 @@ module _ (t : ℕ) (b : List ℕ) (port : ℕ) (slots : List Slot) where
       let f = first-end vacant slots i (seen .free) _ h (k .free) in
       let n = count-end pends slots i (seen .pending) _ h (k .pending) in
       λ j. record { place = p j; free = f j; pending = n j }
+
+-- What is counted when the count of the pending slots has come to place i
+pub record Counted (t : ℕ) (slots : List Slot) (i n : ℕ) : Type 0 where
+  pub pending : n + tally (λ s. isPending t (s .status)) (drop i slots) ≡ tally (λ s. isPending t (s .status)) slots
+  pub few : n ≤ i
+
+module _ (t : ℕ) (slots : List Slot) where
+  pub counted-start : Counted t slots 0 0
+  counted-start = record { pending = omega arith; few = omega arith }
+
+  pub counted-on : (i n next : ℕ) (d : Slot) {here : Bool} → i < length slots → Counted t slots i n → here ≡ isPending t (getD slots i d .status) → next ≡ countIf n here
+      → Counted t slots (i + 1) next
+  counted-on i n next d h k p e =
+      rw (e, p, present slots i d freeSlot h) record {
+        pending = count-on (λ s. isPending t (s .status)) slots i n _ h (k .pending);
+        few = countIf-most n i (isPending t (getD slots i freeSlot .status)) (k .few);
+      }
+
+  pub counted-end : (i n : ℕ) → length slots ≤ i → Counted t slots i n → n ≡ tally (λ s. isPending t (s .status)) slots
+  counted-end i n h k = count-end (λ s. isPending t (s .status)) slots i n _ h (k .pending)
+
+-- The slot at a place, read in the table; and a slot that is not free stands in it.
+module _ (slots : List Slot) (i : ℕ) (n : length slots ≡ 64) where
+  pub slot-read : {at : ℕ} {s r : Slot} → at ≡ withinTable i → s ≡ getD slots at freeSlot → r ≡ slotFound i s → r ≡ getD slots i freeSlot
+  slot-read ea es er = er ∙ (rw (es, ea) (go (ltb i 64) refl))
+    where
+      go : (b : Bool) → ltb i 64 ≡ b → cond b (getD slots (cond b i 0) freeSlot) freeSlot ≡ getD slots i freeSlot
+      go true e = refl
+      go false e = sym (List·getD-eq-default slots freeSlot (omega (arith, ltb-false i 64 e)))
+
+  pub in-table : isFree (getD slots i freeSlot .status) ≡ false → i < 64
+  in-table e = go (ltb i 64) refl
+    where
+      go : (b : Bool) → ltb i 64 ≡ b → i < 64
+      go true q = ltb-true i 64 q
+      go false q =
+          let past : getD slots i freeSlot ≡ freeSlot = List·getD-eq-default slots freeSlot (omega (arith, ltb-false i 64 q)) in
+          absurd (false≢true (sym (rw past at e)))

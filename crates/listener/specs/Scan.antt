@@ -4,9 +4,11 @@ use Prim.Native.Nat.{ℕ, suc}
 use mathlib.Core.List.{List}
 use mathlib.Core.Bool.{Bool, not, cond}
 use lib.Dec.{ltb}
-use Rattle.listener.specs.Table.{isLive, isPending, holdsPeer}
+use Rattle.listener.specs.Table.{isLive, isPending, freeSlot, holdsPeer}
 use Rattle.listener.specs.declared.table.Slot.{Slot}
 use Rattle.listener.specs.declared.table.Scan.{Scan}
+use Rattle.listener.specs.declared.answer.Event.{Event}
+use Rattle.listener.specs.declared.answer.Event.the-variants as events
 
 -- the place found so far (64 for none), or this place, if the test passes here
 abbrev pub firstPlace : ℕ → ℕ → Bool → ℕ
@@ -22,3 +24,23 @@ seenWith seen i t b port s =
       free = firstPlace (seen .free) i (not (isLive t (s .status)));
       pending = countIf (seen .pending) (isPending t (s .status));
     }
+
+abbrev pub nothingSeen : Scan
+nothingSeen = record { place = 64; free = 64; pending = 0 }
+
+-- the peer's slot: read at a place in the table, and the free one where the place is past it
+abbrev pub withinTable : ℕ → ℕ
+withinTable i = cond (ltb i 64) i 0
+
+abbrev pub slotFound : ℕ → Slot → Slot
+slotFound i s = cond (ltb i 64) s freeSlot
+
+-- the place whose slot a done segment changes
+abbrev pub placeOf : Event → Scan → ℕ
+placeOf (events.FastOpen n) seen = seen .free
+placeOf events.Regular seen = seen .free
+placeOf events.Retransmission seen = seen .place
+placeOf events.Completed seen = seen .place
+placeOf events.WasReset seen = seen .place
+placeOf events.Done seen = 64
+placeOf (events.Refused r) seen = 64

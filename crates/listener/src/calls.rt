@@ -15,18 +15,21 @@ use crate::state::InForce;
 use crate::state::Keys;
 use crate::state::Listener;
 use crate::state::Settings;
-use crate::state::at_time;
 use crate::state::free_slot;
 use crate::state::view_of;
-use crate::state::with_slot;
 use crate::table::Scan;
 use crate::table::Slot;
 use crate::table::Status;
 use crate::table::accepted_with;
+use crate::table::count_if;
 use crate::table::is_established;
+use crate::table::is_pending;
 use crate::table::is_waiting;
-use crate::table::scan_table;
+use crate::table::look;
+use crate::table::nothing_seen;
+use crate::table::slot_found;
 use crate::table::with_status;
+use crate::table::within;
 use cipher::expand_key;
 use endpoint::address::Family;
 use endpoint::address::block_of;
@@ -35,7 +38,6 @@ use endpoint::address::is_size;
 use endpoint::address::size_of;
 use endpoint::checks::check_name;
 use endpoint::checks::check_time;
-use segment::header::Header;
 use segment::header::kind_of;
 use segment::refusal::Check;
 use segment::refusal::Refusal;
@@ -44,15 +46,13 @@ use segment::write::write_answer;
 ghost use mathlib.Core.Path.{_≡_};
 ghost use Prim.Native.Nat.{_≤_};
 ghost use lib.ListN.{length};
-ghost use Rattle.segment.specs.Refusal.{refusal};
-ghost use Rattle.segment.specs.Header.{fieldsOf};
 ghost use Rattle.segment.specs.Write.{answerBytes, overwrite};
-ghost use Rattle.endpoint.specs.Checks.{isUntimely};
 ghost use Rattle.listener.specs.Table.{pendingAt};
+ghost use Rattle.listener.specs.Scan.{placeOf};
 ghost use Rattle.listener.specs.View.{ownAddress};
 ghost use Rattle.listener.specs.Call.{Call};
-ghost use Rattle.listener.specs.Refusals.{wireChecks, isReleasable, releaseOf};
-ghost use Rattle.listener.specs.Step.{blank, freshListener, neverStarted, startOf, segmentAfter, answerFrom, step, outputOf, pendingNumber};
+ghost use Rattle.listener.specs.Refusals.{isReleasable, releaseOf};
+ghost use Rattle.listener.specs.Step.{blank, freshListener, neverStarted, startOf, answerFrom, step, outputOf, pendingNumber};
 
 // A refused call changes nothing.
 fn refused(l: Listener, why: Refusal) -> Outcome
@@ -199,63 +199,18 @@ fn write_from(
     write_answer(out, &own[..n], dst, a, cookie)
 }
 
-// The listener after a segment that was not refused.
-fn after_segment(l: Listener, time: u64, found: Scan, event: Event, s: Slot) -> Listener
-    ensures { λ r. ⌜ r ≡ segmentAfter l time found event s ⌝ }
+// The place whose slot a done segment changes: a new connection takes the lowest free one, a known one keeps its own.
+fn place_of(event: Event, seen: Scan) -> usize
+    ensures { λ r. ⌜ r ≡ placeOf event seen ⌝ }
 {
     match event {
-        Event::Refused(_) => l,
-        Event::FastOpen(_) => with_slot(l, time, found.free, s),
-        Event::Regular => with_slot(l, time, found.free, s),
-        Event::Retransmission => with_slot(l, time, found.place, s),
-        Event::Completed => with_slot(l, time, found.place, s),
-        Event::WasReset => with_slot(l, time, found.place, s),
-        Event::Done => at_time(l, time),
-    }
-}
-
-// A segment that passed the checks before its kind.
-fn checked_segment(
-    l: Listener,
-    time: u64,
-    src: &[u8],
-    seg: &[u8],
-    h: Header,
-    iss: u32,
-    out: &mut [u8],
-) -> Outcome
-    requires { ⌜ h ≡ fieldsOf (now seg) ⌝ }
-    requires { ⌜ refusal (wireChecks (l .home) (isUntimely (l .clock) time) (now src) (now seg) (length (now out))) ≡ Check.Clear ⌝ }
-    ensures { λ r. ⌜ r ≡ step l (Call.segment time (now (src .entry)) (now (seg .entry)) iss (length (now (out .entry)))) ⌝ }
-    ensures { λ _. ⌜ now (out .exit) ≡ overwrite (outputOf l (Call.segment time (now (src .entry)) (now (seg .entry)) iss (length (now (out .entry))))) (now (out .entry)) ⌝ }
-{
-    let b = block_of(src);
-    let found = scan_table(l, time, b, h.source);
-    let v = view_of(l, time, found);
-    let kind = kind_of(h.flags);
-    match check_kind(v, h, kind) {
-        Check::Refused(why) => refused(l, why),
-        Check::Clear => {
-            let action = act(v, time, b, h, iss, seg, kind);
-            let event = action.event;
-            let slot = action.slot;
-            let cookie = action.cookie;
-            if !is_answered(event) {
-                return Outcome {
-                    listener: after_segment(l, time, found, event, slot),
-                    event,
-                    written: 0,
-                };
-            }
-            let home = v.home;
-            let g = v.settings;
-            let written = write_from(out, home, g.mss, src, slot, action.fresh, cookie);
-            Outcome {
-                listener: after_segment(l, time, found, event, slot),
-                event,
-                written,
-            }
-        }
+        Event::Refused(_) => 64,
+        Event::FastOpen(_) => seen.free,
+        Event::Regular => seen.free,
+        Event::Retransmission => seen.place,
+        Event::Completed => seen.place,
+        Event::WasReset => seen.place,
+        Event::Done => 64,
     }
 }
 
@@ -267,8 +222,61 @@ pub fn segment(l: Listener, time: u64, src: &[u8], seg: &[u8], iss: u32, out: &m
 {
     let home = l.home;
     match receive(home, l.clock, time, src, seg, out.len()) {
-        Received::Dropped(why) => refused(l, why),
-        Received::Read(h) => checked_segment(l, time, src, seg, h, iss, out),
+        Received::Dropped(why) => {
+            return refused(l, why);
+        }
+        Received::Read(h) => {
+            let mut next = l;
+            let b = block_of(src);
+            let mut seen = nothing_seen();
+            for i in 0..64 {
+                let s = next.slots[i];
+                let more = look(seen, i, time, b, h.source, s);
+                seen = more;
+            }
+            let at = within(seen.place);
+            let s = next.slots[at];
+            let slot = slot_found(seen.place, s);
+            let settings = next.settings;
+            let keys = next.keys;
+            let v = view_of(home, next.clock, settings, keys, time, seen, slot);
+            let kind = kind_of(h.flags);
+            match check_kind(v, h, kind) {
+                Check::Refused(why) => {
+                    return refused(next, why);
+                }
+                Check::Clear => {
+                    let action = act(v, time, b, h, iss, seg, kind);
+                    let event = action.event;
+                    let changed = action.slot;
+                    let cookie = action.cookie;
+                    let i = place_of(event, seen);
+                    next.slots[i] = changed;
+                    next.clock = time;
+                    if !is_answered(event) {
+                        return Outcome {
+                            listener: next,
+                            event,
+                            written: 0,
+                        };
+                    }
+                    let written = write_from(
+                        out,
+                        home,
+                        settings.mss,
+                        src,
+                        changed,
+                        action.fresh,
+                        cookie,
+                    );
+                    return Outcome {
+                        listener: next,
+                        event,
+                        written,
+                    };
+                }
+            }
+        }
     }
 }
 
@@ -329,17 +337,30 @@ fn free_named(l: Listener, time: u64, addr: &[u8], port: u16, established: bool)
     let home = l.home;
     let family = home.family;
     match check_name(home.started, family, l.clock, time, addr) {
-        Check::Refused(why) => refused(l, why),
+        Check::Refused(why) => {
+            return refused(l, why);
+        }
         Check::Clear => {
+            let mut next = l;
             let b = block_of(addr);
-            let found = scan_table(l, time, b, port);
-            let v = view_of(l, time, found);
-            let slot = v.slot;
+            let mut seen = nothing_seen();
+            for i in 0..64 {
+                let s = next.slots[i];
+                let more = look(seen, i, time, b, port, s);
+                seen = more;
+            }
+            let place = seen.place;
+            let at = within(place);
+            let s = next.slots[at];
+            let slot = slot_found(place, s);
             let status = slot.status;
             if !is_releasable(established, status) {
-                return refused(l, Refusal::NoConnection);
+                return refused(next, Refusal::NoConnection);
             }
-            done(with_slot(l, time, found.place, with_status(slot, Status::Free)))
+            let freed = with_status(slot, Status::Free);
+            next.slots[place] = freed;
+            next.clock = time;
+            return done(next);
         }
     }
 }
@@ -374,24 +395,34 @@ pub fn resend(l: Listener, time: u64, addr: &[u8], port: u16, out: &mut [u8]) ->
 {
     let home = l.home;
     match check_output(home, l.clock, time, addr, out.len()) {
-        Check::Refused(why) => refused(l, why),
+        Check::Refused(why) => {
+            return refused(l, why);
+        }
         Check::Clear => {
+            let mut next = l;
             let b = block_of(addr);
-            let found = scan_table(l, time, b, port);
-            let v = view_of(l, time, found);
-            let slot = v.slot;
+            let mut seen = nothing_seen();
+            for i in 0..64 {
+                let s = next.slots[i];
+                let more = look(seen, i, time, b, port, s);
+                seen = more;
+            }
+            let at = within(seen.place);
+            let s = next.slots[at];
+            let slot = slot_found(seen.place, s);
             let status = slot.status;
             if !is_waiting(status) {
-                return refused(l, Refusal::NoConnection);
+                return refused(next, Refusal::NoConnection);
             }
-            let g = v.settings;
+            let settings = next.settings;
             let cookie = [0u8; 8];
-            let written = write_from(out, home, g.mss, addr, slot, false, cookie);
-            Outcome {
-                listener: at_time(l, time),
+            let written = write_from(out, home, settings.mss, addr, slot, false, cookie);
+            next.clock = time;
+            return Outcome {
+                listener: next,
                 event: Event::Done,
                 written,
-            }
+            };
         }
     }
 }
@@ -400,9 +431,15 @@ pub fn resend(l: Listener, time: u64, addr: &[u8], port: u16, out: &mut [u8]) ->
 fn count_pending(l: Listener) -> u32
     ensures { λ r. ⌜ r ≡ pendingAt (l .clock) (l .slots) ⌝ }
 {
-    let zero = [0u8; 16];
-    let found = scan_table(l, l.clock, zero, 0);
-    found.pending
+    let clock = l.clock;
+    let mut n = 0;
+    for i in 0..64 {
+        let s = l.slots[i];
+        let status = s.status;
+        let more = count_if(n, is_pending(clock, status));
+        n = more;
+    }
+    n
 }
 
 // The pending number; 0 for a listener that was never started.

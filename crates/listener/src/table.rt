@@ -1,10 +1,10 @@
 // The table's slots, and the scan that a call makes of them.
-use crate::state::Listener;
+use crate::state::free_slot;
 use endpoint::address::same_name;
 ghost use mathlib.Core.Path.{_≡_};
 ghost use Prim.Native.Nat.{_<_};
-ghost use Rattle.listener.specs.Table.{isLive, isPending, isWaiting, isEstablished, isFree, acceptedWith, afterReset, withStatus, holdsPeer, scanOf};
-ghost use Rattle.listener.specs.Scan.{firstPlace, countIf, seenWith};
+ghost use Rattle.listener.specs.Table.{isLive, isPending, isWaiting, isEstablished, isFree, acceptedWith, afterReset, withStatus, holdsPeer};
+ghost use Rattle.listener.specs.Scan.{firstPlace, countIf, seenWith, nothingSeen, withinTable, slotFound};
 
 // Document 01's free, plain, early with its accepted count, held until a time, and open.
 pub enum Status {
@@ -153,15 +153,15 @@ fn first_place(found: usize, i: usize, here: bool) -> usize
     if here { i } else { found }
 }
 
-fn count_if(n: u32, here: bool) -> u32
+pub(crate) fn count_if(n: u32, here: bool) -> u32
     requires { ⌜ n < 64 ⌝ }
     ensures { λ r. ⌜ r ≡ countIf n here ⌝ }
 {
     if here { n + 1 } else { n }
 }
 
-// The scan goes on by one slot.
-fn look(seen: Scan, i: usize, time: u64, b: [u8; 16], port: u16, s: Slot) -> Scan
+// The scan of a call, one slot further. Its loop stands in each call: a function that takes the listener by value and indexes its slots copies it.
+pub(crate) fn look(seen: Scan, i: usize, time: u64, b: [u8; 16], port: u16, s: Slot) -> Scan
     requires { ⌜ seen .pending < 64 ⌝ }
     ensures { λ r. ⌜ r ≡ seenWith seen i time b port s ⌝ }
 {
@@ -173,19 +173,27 @@ fn look(seen: Scan, i: usize, time: u64, b: [u8; 16], port: u16, s: Slot) -> Sca
     }
 }
 
-// One scan of the table.
-pub(crate) fn scan_table(l: Listener, time: u64, b: [u8; 16], port: u16) -> Scan
-    ensures { λ r. ⌜ r ≡ scanOf time b port (l .slots) ⌝ }
+// What is known before the first slot.
+pub(crate) fn nothing_seen() -> Scan
+    ensures { λ r. ⌜ r ≡ nothingSeen ⌝ }
 {
-    let mut seen = Scan {
+    Scan {
         place: 64,
         free: 64,
         pending: 0,
-    };
-    for i in 0..64 {
-        let s = l.slots[i];
-        let next = look(seen, i, time, b, port, s);
-        seen = next;
     }
-    seen
+}
+
+// A place that can be read: this one, or place 0 where it is past the table.
+pub(crate) fn within(i: usize) -> usize
+    ensures { λ r. ⌜ (r ≡ withinTable i) × (r < 64) ⌝ }
+{
+    if i < 64 { i } else { 0 }
+}
+
+// The peer's slot, read at its place; where there is none, the free slot.
+pub(crate) fn slot_found(i: usize, s: Slot) -> Slot
+    ensures { λ r. ⌜ r ≡ slotFound i s ⌝ }
+{
+    if i < 64 { s } else { free_slot() }
 }

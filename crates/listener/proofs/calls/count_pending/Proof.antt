@@ -1,16 +1,67 @@
--- `listener::calls::count_pending` meets its contract: by the scan.
+-- `listener::calls::count_pending` meets its contract: the loop's invariant is what is counted at place i.
 -- Assumes nothing.
-use mathlib.Core.Path.{ap}
-use Rattle.listener.specs.declared.table.Scan.{Scan}
+use Prim.Native.Nat.{_-_, _≤_, _<_}
+use mathlib.Core.Path.{_≡_}
+use native.Mathlib.Omega.{arith}
+use lib.ListN.{length, length-map}
+use Rattle.listener.proofs.Scanning.{Counted, counted-start, counted-on, counted-end}
 use borrow.Author.Needs.{needs}
 use Rattle.listener.proofs.calls.count_pending.Statement.{statement}
 use Rattle.listener.proofs.calls.count_pending.Tie as tie
 
-scan-table-requires : tie.Need-scan-table-requires
-scan-table-requires c κs = search needs
+abbrev Inv-loop : tie.InvT-loop
+Inv-loop l clock n₀ i₀ n i = (i ≤ 64) × Counted clock (l .slots) i n
 
-returns : tie.Need-returns
-returns c = ap (λ (s : Scan). s .pending) (c .scan-table .ensures)
+abbrev μ-loop : tie.MeasureT-loop
+μ-loop l clock n₀ i₀ n i = 64 - i
+
+loop-holds : tie.Need-loop-holds Inv-loop μ-loop
+loop-holds c = (omega arith, counted-start _ _)
+
+mul-s : tie.Need-mul-s Inv-loop μ-loop
+mul-s c = search needs
+
+element-copy-out-s : tie.Need-element-copy-out-s Inv-loop μ-loop
+element-copy-out-s c = search needs
+
+is-pending-requires : tie.Need-is-pending-requires Inv-loop μ-loop
+is-pending-requires c κs = search needs
+
+count-if-requires : tie.Need-count-if-requires Inv-loop μ-loop
+count-if-requires c κs = omega (arith, c .before .before .before .loop .inv .1 .few)
+
+add-i : tie.Need-add-i Inv-loop μ-loop
+add-i c = search needs
+
+loop-less : tie.Need-loop-less Inv-loop μ-loop
+loop-less c = search needs
+
+loop-again : tie.Need-loop-again Inv-loop μ-loop
+loop-again c =
+    let s = c .before .before .before .before .before .args .t1 .slots in
+    let i = c .before .before .before .before .loop .i in
+    let n : length s ≡ 64 = simp length-map at (c .before .before .before .before .before .good .0 .1 .1 .0 .1 .0 .1) in
+    let h : i < length s = omega arith in
+    (omega arith, counted-on _ s i _ _ _ h (c .before .before .before .before .loop .inv .1) (c .before .is-pending .ensures) (c .count-if .ensures))
+
+returns : tie.Need-returns Inv-loop μ-loop
+returns c =
+    let s = c .before .before .args .t1 .slots in
+    let n : length s ≡ 64 = simp length-map at (c .before .before .good .0 .1 .1 .0 .1 .0 .1) in
+    counted-end _ _ (c .before .loop .i) _ (omega arith) (c .before .loop .inv .1)
 
 pub count-pending-spec : {M : Type 1} → statement M
-count-pending-spec = tie.close (tie.spec scan-table-requires returns)
+count-pending-spec =
+    tie.close
+    (tie.spec
+    Inv-loop
+    μ-loop
+    loop-holds
+    mul-s
+    element-copy-out-s
+    is-pending-requires
+    count-if-requires
+    add-i
+    loop-less
+    loop-again
+    returns)

@@ -7,11 +7,8 @@ use Rattle.listener.proofs.state.view_of.Tie as tie
 is-untimely-requires : tie.Need-is-untimely-requires
 is-untimely-requires c κs = search needs
 
-slot-at-requires : tie.Need-slot-at-requires
-slot-at-requires c κs = search needs
-
 returns : tie.Need-returns
-returns c = simp (c .before .before .before .before .is-untimely .ensures, c .before .before .before .slot-at .ensures)
+returns c = simp (c .before .before .before .is-untimely .ensures)
 
 pub view-of-spec : {M : Type 1} → statement M
-view-of-spec = tie.close (tie.spec is-untimely-requires slot-at-requires returns)
+view-of-spec = tie.close (tie.spec is-untimely-requires returns)
