@@ -1,5 +1,8 @@
 // The start, the calls and the readings. Each call carries a time in ms and answers the listener next; a refused one answers the listener as it was
 // and leaves the output alone.
+//
+// A listener is large, and a function that takes one and indexes its slots copies it. So each call scans the table itself, in the copy that becomes the
+// next listener, which it makes only after its first checks; and each of its ends is a `return`.
 use crate::action::act;
 use crate::answer::Event;
 use crate::answer::Outcome;
@@ -199,7 +202,7 @@ fn write_from(
     write_answer(out, &own[..n], dst, a, cookie)
 }
 
-// The place whose slot a done segment changes: a new connection takes the lowest free one, a known one keeps its own.
+// The place whose slot a done segment changes, 64 for none: a new connection takes the lowest free one, a known one keeps its own.
 fn place_of(event: Event, seen: Scan) -> usize
     ensures { λ r. ⌜ r ≡ placeOf event seen ⌝ }
 {

@@ -160,7 +160,7 @@ pub(crate) fn count_if(n: u32, here: bool) -> u32
     if here { n + 1 } else { n }
 }
 
-// The scan of a call, one slot further. Its loop stands in each call: a function that takes the listener by value and indexes its slots copies it.
+// The scan goes on by one slot. Its loop stands in each call.
 pub(crate) fn look(seen: Scan, i: usize, time: u64, b: [u8; 16], port: u16, s: Slot) -> Scan
     requires { ⌜ seen .pending < 64 ⌝ }
     ensures { λ r. ⌜ r ≡ seenWith seen i time b port s ⌝ }
