@@ -3,7 +3,7 @@
 use Prim.Native.Nat.{ℕ}
 use mathlib.Core.Bool.{Bool}
 use mathlib.Core.List.{List, [], _∷_}
-use lib.ListN.{length}
+use lib.ListN.{length, take}
 use Rattle.segment.specs.declared.refusal.Check.{Check}
 use Rattle.segment.specs.declared.refusal.Check.the-variants.{Clear}
 use Rattle.segment.specs.declared.refusal.Check.the-variants.{Refused as CheckRefused}
@@ -12,6 +12,7 @@ use Rattle.client.specs.declared.answer.Event.the-variants.{Refused, Reported}
 use Rattle.client.specs.Call.{numberOfEvent, countOf}
 use Rattle.text.specs.Number.{decimal}
 use Rattle.text.specs.ByteString.{hexWord}
+use Rattle.text.specs.Output.{isKept}
 use Rattle.text.specs.Put.{fields, restWord}
 
 -- NUMBER COUNT WRITTEN OUTPUT REST
@@ -24,6 +25,10 @@ answerLine event written kept =
     ∷ hexWord written
     ∷ restWord kept
     ∷ [])
+
+-- what a call came to: OUTPUT is the bytes written to the lent output, and REST tells of the others
+unfoldable pub outcomeLine : Event → List ℕ → ℕ → List ℕ
+outcomeLine event lent written = answerLine event (take written lent) (isKept written lent)
 
 -- a start prints like a report
 abbrev pub eventOf : Check → Event

@@ -3,16 +3,27 @@ use client::answer::Event;
 use client::answer::event_count;
 use client::answer::event_number;
 use segment::refusal::Check;
+use text::output::is_kept;
+use text::part::first;
 use text::put::put_bytes_field;
 use text::put::put_number_field;
 use text::put::put_rest;
 ghost use mathlib.Core.Path.{_≡_};
 ghost use lib.ListN.{length};
 ghost use Rattle.text.specs.Put.{placeAfter, laid};
-ghost use Rattle.client_replay.specs.Line.{answerLine, eventOf};
+ghost use Rattle.client_replay.specs.Line.{answerLine, outcomeLine, eventOf};
 
-// Puts the line of an answer at the buffer's start, and says where it ends.
-pub(crate) fn put_answer(out: &mut [u8], event: Event, written: &[u8], kept: bool) -> usize
+// Puts the line of what a call came to at the buffer's start, and says where it ends: `lent` is the output that was lent to it.
+pub(crate) fn put_outcome(out: &mut [u8], event: Event, lent: &[u8], written: usize) -> usize
+    ensures { λ r. ⌜ r ≡ placeAfter 0 (length (outcomeLine event (now (lent .entry)) written)) (length (now (out .entry))) ⌝ }
+    ensures { λ _. ⌜ now (out .exit) ≡ laid 0 (outcomeLine event (now (lent .entry)) written) (now (out .entry)) ⌝ }
+{
+    let kept = is_kept(lent, written);
+    put_answer(out, event, first(lent, written), kept)
+}
+
+// Puts the fields of an answer.
+fn put_answer(out: &mut [u8], event: Event, written: &[u8], kept: bool) -> usize
     ensures { λ r. ⌜ r ≡ placeAfter 0 (length (answerLine event (now (written .entry)) kept)) (length (now (out .entry))) ⌝ }
     ensures { λ _. ⌜ now (out .exit) ≡ laid 0 (answerLine event (now (written .entry)) kept) (now (out .entry)) ⌝ }
 {
@@ -23,7 +34,7 @@ pub(crate) fn put_answer(out: &mut [u8], event: Event, written: &[u8], kept: boo
     put_rest(out, d, kept)
 }
 
-// A start prints like any other call that is done.
+// A start prints like a report.
 pub(crate) fn event_of(check: Check) -> Event
     ensures { λ r. ⌜ r ≡ eventOf check ⌝ }
 {

@@ -35,25 +35,26 @@ fn take_input(s: Session, line: &mut [u8], input: &[u8]) -> Session {
     Session { memory, len }
 }
 
-// One read; what has come of it, and whether the input goes on.
-struct Turn {
+// What has come of one read, and whether the input goes on.
+struct Input {
     session: Session,
-    on: bool,
+    more: bool,
 }
 
-fn read_once(s: Session, line: &mut [u8]) -> Turn {
+// A read that fails counts as the end of the input.
+fn read_once(s: Session, line: &mut [u8]) -> Input {
     let mut input = io::large_buffer();
     let got = libc::read(STDIN_FILENO, &mut input);
     let n = io::count(got, &input);
     if n == 0 {
-        return Turn {
+        return Input {
             session: s,
-            on: false,
+            more: false,
         };
     }
-    Turn {
+    Input {
         session: take_input(s, line, &input[..n]),
-        on: true,
+        more: true,
     }
 }
 
@@ -64,7 +65,7 @@ fn play_all(start: Session, line: &mut [u8]) -> Session {
     while reads > 0 {
         let t = read_once(session, line);
         session = t.session;
-        if !t.on {
+        if !t.more {
             return session;
         }
         reads -= 1;

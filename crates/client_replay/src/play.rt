@@ -1,6 +1,6 @@
 // A line of the script: read, played on the memory, answered.
 use crate::line::event_of;
-use crate::line::put_answer;
+use crate::line::put_outcome;
 use client::answer::ActiveOpen;
 use client::answer::Attempt;
 use client::answer::Event;
@@ -14,25 +14,25 @@ use libc::STDOUT_FILENO;
 use text::bytestring::ByteString;
 use text::bytestring::read_bytes;
 use text::line::LONGEST;
-use text::line::is_filled;
 use text::line::is_silent;
 use text::name::Name;
 use text::name::read_name;
-use text::number::Long;
 use text::number::Number;
-use text::number::read_long;
+use text::number::Number32;
 use text::number::read_number;
+use text::number::read_number32;
+use text::output::FILL;
+use text::output::MOST_OUTPUT;
 use text::part::first;
-use text::part::rest;
 use text::word::is_word;
 use text::word::space_count;
 use text::word::word_at;
 
-// What the lent output is filled with before a call.
-const FILL: u8 = 0xa5;
+// The most bytes that a word of a line says, at two digits each.
+const BYTES: usize = LONGEST / 2;
 
-// How many bytes of output may be lent.
-const MOST_OUTPUT: u64 = 2048;
+// Room for an answer's line: its longest word is an opening of 1,504 bytes, at two digits each.
+const ANSWER: usize = 4096;
 
 fn bad_line(m: Memory) -> Memory {
     io::write_all(STDOUT_FILENO, b"bad line\n");
@@ -40,18 +40,17 @@ fn bad_line(m: Memory) -> Memory {
 }
 
 // Prints what a call came to. `lent` is the output that was lent to it.
-fn print_answer(event: Event, lent: &[u8], written: usize) {
-    let mut text = [0u8; 8192];
-    let kept = is_filled(rest(lent, written), FILL);
-    let n = put_answer(&mut text, event, first(lent, written), kept);
+fn print_outcome(event: Event, lent: &[u8], written: usize) {
+    let mut text = [0u8; ANSWER];
+    let n = put_outcome(&mut text, event, lent, written);
     io::write_all(STDOUT_FILENO, first(&text, n));
 }
 
 // A call without output.
-fn answered(o: Outcome) -> Memory {
+fn print_done(o: Outcome) -> Memory {
     let nothing = [0u8; 0];
     let event = o.event;
-    print_answer(event, &nothing, 0);
+    print_outcome(event, &nothing, 0);
     o.memory
 }
 
@@ -66,7 +65,7 @@ fn play_start(m: Memory, line: &[u8]) -> Memory {
     let s = start(size as usize);
     let memory = s.memory;
     let check = s.check;
-    answered(Outcome {
+    print_done(Outcome {
         memory,
         event: event_of(check),
         written: 0,
@@ -105,7 +104,7 @@ fn read_ends(line: &[u8], own: &mut [u8], server: &mut [u8]) -> Ends {
     else {
         return Ends::Bad;
     };
-    let Long::Value(iss) = read_long(word_at(line, 6)) else {
+    let Number32::Value(iss) = read_number32(word_at(line, 6)) else {
         return Ends::Bad;
     };
     Ends::Known {
@@ -137,10 +136,10 @@ fn lend_connect(
 
 // open TIME OWN-ADDRESS OWN-PORT SERVER-ADDRESS SERVER-PORT OURS MSS OUT DATA
 fn play_open(m: Memory, line: &[u8]) -> Memory {
-    let mut own_address = [0u8; 4096];
-    let mut server_address = [0u8; 4096];
-    let mut data = [0u8; 4096];
-    let mut out = [FILL; 2048];
+    let mut own_address = [0u8; BYTES];
+    let mut server_address = [0u8; BYTES];
+    let mut data = [0u8; BYTES];
+    let mut out = [FILL; MOST_OUTPUT];
     if space_count(line) != 9 {
         return bad_line(m);
     }
@@ -155,10 +154,10 @@ fn play_open(m: Memory, line: &[u8]) -> Memory {
     else {
         return bad_line(m);
     };
-    let Long::Value(mss) = read_long(word_at(line, 7)) else {
+    let Number32::Value(mss) = read_number32(word_at(line, 7)) else {
         return bad_line(m);
     };
-    let Number::Value(room) = read_number(word_at(line, 8), MOST_OUTPUT) else {
+    let Number::Value(room) = read_number(word_at(line, 8), MOST_OUTPUT as u64) else {
         return bad_line(m);
     };
     let ByteString::Count(n) = read_bytes(word_at(line, 9), &mut data) else {
@@ -180,15 +179,15 @@ fn play_open(m: Memory, line: &[u8]) -> Memory {
         room as usize,
     );
     let event = o.event;
-    print_answer(event, first(&out, room as usize), o.written);
+    print_outcome(event, first(&out, room as usize), o.written);
     o.memory
 }
 
 // answer TIME OWN-ADDRESS OWN-PORT SERVER-ADDRESS SERVER-PORT OURS SENT SEGMENT
 fn play_answer(m: Memory, line: &[u8]) -> Memory {
-    let mut own_address = [0u8; 4096];
-    let mut server_address = [0u8; 4096];
-    let mut seg = [0u8; 4096];
+    let mut own_address = [0u8; BYTES];
+    let mut server_address = [0u8; BYTES];
+    let mut seg = [0u8; BYTES];
     if space_count(line) != 8 {
         return bad_line(m);
     }
@@ -203,13 +202,13 @@ fn play_answer(m: Memory, line: &[u8]) -> Memory {
     else {
         return bad_line(m);
     };
-    let Long::Value(sent) = read_long(word_at(line, 7)) else {
+    let Number32::Value(sent) = read_number32(word_at(line, 7)) else {
         return bad_line(m);
     };
     let ByteString::Count(n) = read_bytes(word_at(line, 8), &mut seg) else {
         return bad_line(m);
     };
-    answered(answer(
+    print_done(answer(
         m,
         time,
         first(&own_address, own),
@@ -226,7 +225,7 @@ fn play_answer(m: Memory, line: &[u8]) -> Memory {
 
 // failed TIME SERVER-ADDRESS SERVER-PORT
 fn play_failed(m: Memory, line: &[u8]) -> Memory {
-    let mut address = [0u8; 4096];
+    let mut address = [0u8; BYTES];
     if space_count(line) != 3 {
         return bad_line(m);
     }
@@ -237,7 +236,7 @@ fn play_failed(m: Memory, line: &[u8]) -> Memory {
     else {
         return bad_line(m);
     };
-    answered(failed(m, time, first(&address, size), port))
+    print_done(failed(m, time, first(&address, size), port))
 }
 
 // A call, by its first word.

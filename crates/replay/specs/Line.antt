@@ -3,7 +3,7 @@
 use Prim.Native.Nat.{ℕ}
 use mathlib.Core.Bool.{Bool}
 use mathlib.Core.List.{List, [], _∷_}
-use lib.ListN.{length}
+use lib.ListN.{length, take}
 use Rattle.segment.specs.declared.refusal.Check.{Check}
 use Rattle.segment.specs.declared.refusal.Check.the-variants.{Clear}
 use Rattle.segment.specs.declared.refusal.Check.the-variants.{Refused as CheckRefused}
@@ -12,7 +12,10 @@ use Rattle.listener.specs.declared.answer.Event.the-variants.{Refused, Done}
 use Rattle.listener.specs.Call.{numberOfEvent, acceptedOf, SegmentKind, opening, reset, completion, none, kindOfEvent, Verdict, early, plain, repeat, unjudged, verdictOf}
 use Rattle.text.specs.Number.{decimal}
 use Rattle.text.specs.ByteString.{hexWord}
+use Rattle.text.specs.Output.{isKept}
 use Rattle.text.specs.Put.{fields, restWord}
+use Rattle.listener.specs.declared.state.Listener.{Listener}
+use Rattle.listener.specs.Step.{pendingNumber}
 
 -- `opening`, `reset`, `completion` or `-`
 abbrev pub kindWord : SegmentKind → List ℕ
@@ -42,6 +45,10 @@ answerLine event pending written part kept =
     ∷ hexWord part
     ∷ restWord kept
     ∷ [])
+
+-- what a call came to: PENDING is the pending number after it, OUTPUT the bytes written to the lent output, and REST tells of the others
+unfoldable pub outcomeLine : Listener → Event → List ℕ → ℕ → List ℕ → List ℕ
+outcomeLine l event lent written part = answerLine event (pendingNumber l) (take written lent) part (isKept written lent)
 
 -- a start prints like any other call that is no segment
 abbrev pub eventOf : Check → Event

@@ -2,7 +2,11 @@
 use listener::answer::Event;
 use listener::answer::accepted_count;
 use listener::answer::event_number;
+use listener::calls::pending;
+use listener::state::Listener;
 use segment::refusal::Check;
+use text::output::is_kept;
+use text::part::first;
 use text::put::put_bytes_field;
 use text::put::put_field;
 use text::put::put_number_field;
@@ -12,10 +16,26 @@ ghost use mathlib.Core.List.{_++_};
 ghost use lib.ListN.{length};
 ghost use Rattle.listener.specs.Call.{kindOfEvent, verdictOf};
 ghost use Rattle.text.specs.Put.{placeAfter, laid, field};
-ghost use Rattle.replay.specs.Line.{kindWord, verdictWord, answerLine, eventOf};
+ghost use Rattle.replay.specs.Line.{kindWord, verdictWord, answerLine, outcomeLine, eventOf};
 
-// Puts the line of an answer at the buffer's start, and says where it ends.
-pub(crate) fn put_answer(
+// Puts the line of what a call came to at the buffer's start, and says where it ends: `l` is the listener after it, `lent` the output that was lent to it.
+pub(crate) fn put_outcome(
+    out: &mut [u8],
+    l: Listener,
+    event: Event,
+    lent: &[u8],
+    written: usize,
+    part: &[u8],
+) -> usize
+    ensures { λ r. ⌜ r ≡ placeAfter 0 (length (outcomeLine l event (now (lent .entry)) written (now (part .entry)))) (length (now (out .entry))) ⌝ }
+    ensures { λ _. ⌜ now (out .exit) ≡ laid 0 (outcomeLine l event (now (lent .entry)) written (now (part .entry))) (now (out .entry)) ⌝ }
+{
+    let kept = is_kept(lent, written);
+    put_answer(out, event, pending(l), first(lent, written), part, kept)
+}
+
+// Puts the fields of an answer.
+fn put_answer(
     out: &mut [u8],
     event: Event,
     pending: u32,

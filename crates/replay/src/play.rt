@@ -1,13 +1,12 @@
 // A line of the script: read, played on the listener, answered.
 use crate::line::event_of;
-use crate::line::put_answer;
+use crate::line::put_outcome;
 use libc::STDOUT_FILENO;
 use listener::answer::Event;
 use listener::answer::Outcome;
 use listener::answer::accepted_part;
 use listener::calls::abandon;
 use listener::calls::close;
-use listener::calls::pending;
 use listener::calls::resend;
 use listener::calls::segment;
 use listener::calls::set_key;
@@ -18,25 +17,25 @@ use listener::state::Settings;
 use text::bytestring::ByteString;
 use text::bytestring::read_bytes;
 use text::line::LONGEST;
-use text::line::is_filled;
 use text::line::is_silent;
 use text::name::Name;
 use text::name::read_name;
-use text::number::Long;
 use text::number::Number;
-use text::number::read_long;
+use text::number::Number32;
 use text::number::read_number;
+use text::number::read_number32;
+use text::output::FILL;
+use text::output::MOST_OUTPUT;
 use text::part::first;
-use text::part::rest;
 use text::word::is_word;
 use text::word::space_count;
 use text::word::word_at;
 
-// What the lent output is filled with before a call.
-const FILL: u8 = 0xa5;
+// The most bytes that a word of a line says, at two digits each.
+const BYTES: usize = LONGEST / 2;
 
-// How many bytes of output may be lent.
-const MOST_OUTPUT: u64 = 2048;
+// Room for an answer's line: its longest words are a part of 1,460 bytes and an output of 36, at two digits each.
+const ANSWER: usize = 4096;
 
 fn bad_line(l: Listener) -> Listener {
     io::write_all(STDOUT_FILENO, b"bad line\n");
@@ -44,33 +43,25 @@ fn bad_line(l: Listener) -> Listener {
 }
 
 // Prints what a call came to. `lent` is the output that was lent to it.
-fn print_answer(l: Listener, event: Event, lent: &[u8], written: usize, part: &[u8]) {
-    let mut text = [0u8; 8192];
-    let kept = is_filled(rest(lent, written), FILL);
-    let n = put_answer(
-        &mut text,
-        event,
-        pending(l),
-        first(lent, written),
-        part,
-        kept,
-    );
+fn print_outcome(l: Listener, event: Event, lent: &[u8], written: usize, part: &[u8]) {
+    let mut text = [0u8; ANSWER];
+    let n = put_outcome(&mut text, l, event, lent, written, part);
     io::write_all(STDOUT_FILENO, first(&text, n));
 }
 
 // A call without output or part.
-fn answered(o: Outcome) -> Listener {
+fn print_done(o: Outcome) -> Listener {
     let nothing = [0u8; 0];
     let l = o.listener;
     let event = o.event;
-    print_answer(l, event, &nothing, 0, &nothing);
+    print_outcome(l, event, &nothing, 0, &nothing);
     l
 }
 
 // start ADDRESS PORT KEY
 fn play_start(l: Listener, line: &[u8]) -> Listener {
-    let mut own = [0u8; 4096];
-    let mut key = [0u8; 4096];
+    let mut own = [0u8; BYTES];
+    let mut key = [0u8; BYTES];
     if space_count(line) != 3 {
         return bad_line(l);
     }
@@ -83,7 +74,7 @@ fn play_start(l: Listener, line: &[u8]) -> Listener {
     let s = start(first(&own, size), port, first(&key, n));
     let started = s.listener;
     let check = s.check;
-    answered(Outcome {
+    print_done(Outcome {
         listener: started,
         event: event_of(check),
         written: 0,
@@ -104,16 +95,16 @@ fn play_settings(l: Listener, line: &[u8]) -> Listener {
             return bad_line(l);
         }
     }
-    let Long::Value(limit) = read_long(word_at(line, 3)) else {
+    let Number32::Value(limit) = read_number32(word_at(line, 3)) else {
         return bad_line(l);
     };
-    let Long::Value(room) = read_long(word_at(line, 4)) else {
+    let Number32::Value(room) = read_number32(word_at(line, 4)) else {
         return bad_line(l);
     };
-    let Long::Value(hold) = read_long(word_at(line, 5)) else {
+    let Number32::Value(hold) = read_number32(word_at(line, 5)) else {
         return bad_line(l);
     };
-    let Long::Value(mss) = read_long(word_at(line, 6)) else {
+    let Number32::Value(mss) = read_number32(word_at(line, 6)) else {
         return bad_line(l);
     };
     let g = Settings {
@@ -123,12 +114,12 @@ fn play_settings(l: Listener, line: &[u8]) -> Listener {
         hold,
         mss,
     };
-    answered(set_settings(l, time, g))
+    print_done(set_settings(l, time, g))
 }
 
 // key TIME KEY
 fn play_key(l: Listener, line: &[u8]) -> Listener {
-    let mut key = [0u8; 4096];
+    let mut key = [0u8; BYTES];
     if space_count(line) != 2 {
         return bad_line(l);
     }
@@ -138,7 +129,7 @@ fn play_key(l: Listener, line: &[u8]) -> Listener {
     let ByteString::Count(n) = read_bytes(word_at(line, 2), &mut key) else {
         return bad_line(l);
     };
-    answered(set_key(l, time, first(&key, n)))
+    print_done(set_key(l, time, first(&key, n)))
 }
 
 // The call itself, with so much of the output lent.
@@ -159,9 +150,9 @@ fn lend_segment(
 
 // segment TIME ADDRESS OURS OUT SEGMENT
 fn play_segment(l: Listener, line: &[u8]) -> Listener {
-    let mut src = [0u8; 4096];
-    let mut seg = [0u8; 4096];
-    let mut out = [FILL; 2048];
+    let mut src = [0u8; BYTES];
+    let mut seg = [0u8; BYTES];
+    let mut out = [FILL; MOST_OUTPUT];
     if space_count(line) != 5 {
         return bad_line(l);
     }
@@ -171,10 +162,10 @@ fn play_segment(l: Listener, line: &[u8]) -> Listener {
     let ByteString::Count(n) = read_bytes(word_at(line, 2), &mut src) else {
         return bad_line(l);
     };
-    let Long::Value(iss) = read_long(word_at(line, 3)) else {
+    let Number32::Value(iss) = read_number32(word_at(line, 3)) else {
         return bad_line(l);
     };
-    let Number::Value(room) = read_number(word_at(line, 4), MOST_OUTPUT) else {
+    let Number::Value(room) = read_number(word_at(line, 4), MOST_OUTPUT as u64) else {
         return bad_line(l);
     };
     let ByteString::Count(m) = read_bytes(word_at(line, 5), &mut seg) else {
@@ -192,13 +183,13 @@ fn play_segment(l: Listener, line: &[u8]) -> Listener {
     let event = o.event;
     let part = accepted_part(first(&seg, m), event);
     let next = o.listener;
-    print_answer(next, event, first(&out, room as usize), o.written, part);
+    print_outcome(next, event, first(&out, room as usize), o.written, part);
     next
 }
 
 // abandon TIME ADDRESS PORT, and close likewise
 fn play_release(l: Listener, line: &[u8], established: bool) -> Listener {
-    let mut addr = [0u8; 4096];
+    let mut addr = [0u8; BYTES];
     if space_count(line) != 3 {
         return bad_line(l);
     }
@@ -209,9 +200,9 @@ fn play_release(l: Listener, line: &[u8], established: bool) -> Listener {
         return bad_line(l);
     };
     if established {
-        return answered(close(l, time, first(&addr, size), port));
+        return print_done(close(l, time, first(&addr, size), port));
     }
-    answered(abandon(l, time, first(&addr, size), port))
+    print_done(abandon(l, time, first(&addr, size), port))
 }
 
 // The call itself, with so much of the output lent.
@@ -231,8 +222,8 @@ fn lend_resend(
 
 // resend TIME ADDRESS PORT OUT
 fn play_resend(l: Listener, line: &[u8]) -> Listener {
-    let mut addr = [0u8; 4096];
-    let mut out = [FILL; 2048];
+    let mut addr = [0u8; BYTES];
+    let mut out = [FILL; MOST_OUTPUT];
     let nothing = [0u8; 0];
     if space_count(line) != 4 {
         return bad_line(l);
@@ -243,13 +234,13 @@ fn play_resend(l: Listener, line: &[u8]) -> Listener {
     let Name::Known { size, port } = read_name(word_at(line, 2), word_at(line, 3), &mut addr) else {
         return bad_line(l);
     };
-    let Number::Value(room) = read_number(word_at(line, 4), MOST_OUTPUT) else {
+    let Number::Value(room) = read_number(word_at(line, 4), MOST_OUTPUT as u64) else {
         return bad_line(l);
     };
     let o = lend_resend(l, time, first(&addr, size), port, &mut out, room as usize);
     let event = o.event;
     let next = o.listener;
-    print_answer(next, event, first(&out, room as usize), o.written, &nothing);
+    print_outcome(next, event, first(&out, room as usize), o.written, &nothing);
     next
 }
 

@@ -4,7 +4,7 @@ use Prim.Native.Nat.{ℕ, _+_, _-_, _*_, _/_}
 use mathlib.Core.List.{List, [], _∷_}
 use Rattle.segment.specs.Bytes.{word}
 
--- the words of some bytes added up
+-- the words of some bytes added up; an odd last byte is the high byte of a word
 unfoldable pub total : List ℕ → ℕ
 total [] = 0
 total (a ∷ []) = word a 0

@@ -7,7 +7,7 @@ ghost use lib.ListN.{length};
 ghost use Rattle.segment.specs.Checksum.{onesSum, oneFamily, pseudoHeader, checksumRight};
 ghost use Rattle.segment.specs.Totals.{total, folded};
 
-// How many bytes are added up before the carries are added too.
+// How many bytes are added up before the carries are added too: an even number, whose words come to less than 2^32.
 const RUN: usize = 65536;
 
 // A total with its carries added at the low end.
@@ -18,13 +18,14 @@ fn fold(total: u32) -> u16
     (t % 65536 + t / 65536) as u16
 }
 
+// As wide as a total; the contract has the bound that a sum of them needs.
 fn wide(x: u16) -> u32
     ensures { λ r. ⌜ (r ≡ x) × (x < 65536) ⌝ }
 {
     x as u32
 }
 
-// The words of `s` added up, an odd last byte padded with a zero. With the carries put off, a turn does not wait for the one before.
+// The words of `s` added up, an odd last byte padded with a zero. With the carries put off, a turn is one addition.
 fn total_of(s: &[u8]) -> u32
     requires { ⌜ length (now s) ≤ 65536 ⌝ }
     ensures { λ r. ⌜ (r ≡ total (now (s .entry))) × (r ≤ 32768 * 65535) ⌝ }

@@ -1,7 +1,8 @@
--- The text of the replay programs, as their format is fixed: lines, words, numbers, byte strings, names; then what is put into a buffer.
+-- The text of the replay programs, as their format is fixed: lines, words, numbers, byte strings, names; the lent output; then what is put into a buffer.
 pub mod Line
 pub mod Word
 pub mod Number
 pub mod ByteString
 pub mod Name
+pub mod Output
 pub mod Put

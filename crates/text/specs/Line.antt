@@ -6,7 +6,6 @@ use mathlib.Core.Bool.{Bool, true, false, cond}
 use lib.ListN.{length, take, drop}
 use lib.Dec.{eqb, ltb}
 use Rattle.bytes.specs.Bytes.{indexOf}
-use Rattle.endpoint.specs.Lists.{every}
 use Rattle.text.specs.declared.line.Gathered.{Gathered}
 
 -- a longer line is bad
@@ -17,10 +16,6 @@ longest = 8192
 unfoldable pub isSilent : List ℕ → Bool
 isSilent [] = true
 isSilent (b ∷ s) = eqb b 35
-
--- every byte is b
-abbrev pub isFilled : ℕ → List ℕ → Bool
-isFilled b s = every (λ x. eqb x b) s
 
 -- how many bytes stand before the first line feed; all of them where there is none
 abbrev pub feedAt : List ℕ → ℕ

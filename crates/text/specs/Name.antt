@@ -2,28 +2,28 @@
 -- Assumes nothing.
 use Prim.Native.Nat.{ℕ}
 use mathlib.Core.List.{List, []}
-use Rattle.text.specs.Number.{shortIn}
+use Rattle.text.specs.Number.{number16In}
 use Rattle.text.specs.ByteString.{bytesIn, bytesRead}
-use Rattle.text.specs.declared.number.Short.{Short}
-use Rattle.text.specs.declared.number.Short.the-variants.{Value, Bad}
+use Rattle.text.specs.declared.number.Number16.{Number16}
+use Rattle.text.specs.declared.number.Number16.the-variants.{Value, Bad}
 use Rattle.text.specs.declared.bytestring.ByteString.{ByteString}
 use Rattle.text.specs.declared.bytestring.ByteString.the-variants.{Count, Bad as BytesBad}
 use Rattle.text.specs.declared.name.Name.{Name}
 use Rattle.text.specs.declared.name.Name.the-variants.{Known, Bad as NameBad}
 
 -- both words have to be right
-abbrev pub nameOf : Short → ByteString → Name
+abbrev pub nameOf : Number16 → ByteString → Name
 nameOf Bad b = NameBad
 nameOf (Value p) BytesBad = NameBad
 nameOf (Value p) (Count n) = Known n p
 
 unfoldable pub nameIn : List ℕ → List ℕ → ℕ → Name
-nameIn address port room = nameOf (shortIn port) (bytesRead address room)
+nameIn address port room = nameOf (number16In port) (bytesRead address room)
 
 -- the bytes that are read to the buffer; none where a word is bad
-abbrev pub addressOf : Short → List ℕ → ℕ → List ℕ
+abbrev pub addressOf : Number16 → List ℕ → ℕ → List ℕ
 addressOf Bad address room = []
 addressOf (Value p) address room = bytesIn address room
 
 unfoldable pub addressIn : List ℕ → List ℕ → ℕ → List ℕ
-addressIn address port room = addressOf (shortIn port) address room
+addressIn address port room = addressOf (number16In port) address room

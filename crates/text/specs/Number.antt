@@ -8,10 +8,10 @@ use lib.Dec.{leb, ltb}
 use Rattle.endpoint.specs.Lists.{every}
 use Rattle.text.specs.declared.number.Number.{Number}
 use Rattle.text.specs.declared.number.Number.the-variants.{Value, Bad}
-use Rattle.text.specs.declared.number.Short.{Short}
-use Rattle.text.specs.declared.number.Short.the-variants.{Value as ShortValue, Bad as ShortBad}
-use Rattle.text.specs.declared.number.Long.{Long}
-use Rattle.text.specs.declared.number.Long.the-variants.{Value as LongValue, Bad as LongBad}
+use Rattle.text.specs.declared.number.Number16.{Number16}
+use Rattle.text.specs.declared.number.Number16.the-variants.{Value as Value16, Bad as Bad16}
+use Rattle.text.specs.declared.number.Number32.{Number32}
+use Rattle.text.specs.declared.number.Number32.the-variants.{Value as Value32, Bad as Bad32}
 
 abbrev pub isDigit : ℕ → Bool
 isDigit b = leb 48 b && leb b 57
@@ -34,19 +34,19 @@ unfoldable pub numberIn : List ℕ → ℕ → Number
 numberIn s most = cond (isNumber s && leb (valueFrom 0 s) most) (Value (valueFrom 0 s)) Bad
 
 -- a number that its argument's type holds: of 16 bits, and of 32
-abbrev pub asShort : Number → Short
-asShort (Value v) = ShortValue v
-asShort Bad = ShortBad
+abbrev pub as16 : Number → Number16
+as16 (Value v) = Value16 v
+as16 Bad = Bad16
 
-abbrev pub asLong : Number → Long
-asLong (Value v) = LongValue v
-asLong Bad = LongBad
+abbrev pub as32 : Number → Number32
+as32 (Value v) = Value32 v
+as32 Bad = Bad32
 
-unfoldable pub shortIn : List ℕ → Short
-shortIn s = asShort (numberIn s 65535)
+unfoldable pub number16In : List ℕ → Number16
+number16In s = as16 (numberIn s 65535)
 
-unfoldable pub longIn : List ℕ → Long
-longIn s = asLong (numberIn s 4294967295)
+unfoldable pub number32In : List ℕ → Number32
+number32In s = as32 (numberIn s 4294967295)
 
 -- a number's decimal digits, at most k of them
 unfoldable pub digitsOf : ℕ → ℕ → List ℕ

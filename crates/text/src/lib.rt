@@ -1,10 +1,11 @@
 // The text of the replay programs: a line's words, numbers and byte strings are read, and an answer's line is put into a buffer.
 //
-// Nothing here has a precondition: a word that is no number or no byte string is answered `Bad`, and a buffer takes as many bytes as it has room for.
+// No public function has a precondition: a word that is no number or no byte string is answered `Bad`, and a buffer takes as many bytes as it has room for.
 pub mod bytestring;
 pub mod line;
 pub mod name;
 pub mod number;
+pub mod output;
 pub mod part;
 pub mod put;
 pub mod word;

@@ -4,14 +4,14 @@ use crate::part::rest;
 use crate::put::put;
 ghost use mathlib.Core.Path.{_≡_};
 ghost use lib.ListN.{drop};
-ghost use Rattle.text.specs.Line.{isSilent, isFilled, lengthWith, beforeFeed, gathered};
+ghost use Rattle.text.specs.Line.{isSilent, lengthWith, beforeFeed, gathered};
 ghost use Rattle.text.specs.Put.{laid};
 
 // The longest line that is read, its line feed not counted.
 pub const LONGEST: usize = 8192;
 
 // The length of a line that had `len` bytes and gets `more`. One byte too many counts like any number of them.
-fn grown(len: usize, more: usize) -> usize
+fn length_with(len: usize, more: usize) -> usize
     ensures { λ r. ⌜ r ≡ lengthWith len more ⌝ }
 {
     if len > LONGEST {
@@ -33,20 +33,6 @@ pub fn is_silent(line: &[u8]) -> bool
     line[0] == b'#'
 }
 
-// Whether all of these bytes are `b`.
-pub fn is_filled(bytes: &[u8], b: u8) -> bool
-    ensures { λ r. ⌜ r ≡ isFilled b (now (bytes .entry)) ⌝ }
-{
-    let mut i = 0;
-    while i < bytes.len() {
-        if bytes[i] != b {
-            return false;
-        }
-        i += 1;
-    }
-    true
-}
-
 // What a step through the input comes to: where it goes on, how long the line is, and whether the line is complete.
 pub struct Gathered {
     pub next: usize,
@@ -63,7 +49,7 @@ pub fn gather(line: &mut [u8], len: usize, input: &[u8], from: usize) -> Gathere
     let n = left.len();
     let size = bytes::scan::find(left, 0, n, b'\n');
     put(line, len, first(left, size));
-    let all = grown(len, size);
+    let all = length_with(len, size);
     if n <= size {
         return Gathered {
             next: input.len(),

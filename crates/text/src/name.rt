@@ -1,8 +1,8 @@
 // A connection's name in a line: an address and a port.
 use crate::bytestring::ByteString;
 use crate::bytestring::read_bytes;
-use crate::number::Short;
-use crate::number::read_short;
+use crate::number::Number16;
+use crate::number::read_number16;
 ghost use mathlib.Core.Path.{_≡_};
 ghost use lib.ListN.{length};
 ghost use Rattle.segment.specs.Write.{overwrite};
@@ -19,9 +19,9 @@ pub fn read_name(address: &[u8], port: &[u8], out: &mut [u8]) -> Name
     ensures { λ r. ⌜ r ≡ nameIn (now (address .entry)) (now (port .entry)) (length (now (out .entry))) ⌝ }
     ensures { λ _. ⌜ now (out .exit) ≡ overwrite (addressIn (now (address .entry)) (now (port .entry)) (length (now (out .entry)))) (now (out .entry)) ⌝ }
 {
-    match read_short(port) {
-        Short::Bad => Name::Bad,
-        Short::Value(number) => match read_bytes(address, out) {
+    match read_number16(port) {
+        Number16::Bad => Name::Bad,
+        Number16::Value(number) => match read_bytes(address, out) {
             ByteString::Bad => Name::Bad,
             ByteString::Count(size) => Name::Known { size, port: number },
         },

@@ -1,6 +1,6 @@
 // Decimal numbers.
 ghost use mathlib.Core.Path.{_≡_};
-ghost use Rattle.text.specs.Number.{digit, numberIn, shortIn, longIn};
+ghost use Rattle.text.specs.Number.{digit, numberIn, number16In, number32In};
 
 // A number that was read, or that the word is none, or one too large.
 pub enum Number {
@@ -9,12 +9,12 @@ pub enum Number {
 }
 
 // The same of numbers of 16 and of 32 bits.
-pub enum Short {
+pub enum Number16 {
     Value(u16),
     Bad,
 }
 
-pub enum Long {
+pub enum Number32 {
     Value(u32),
     Bad,
 }
@@ -46,22 +46,22 @@ pub fn read_number(word: &[u8], most: u64) -> Number
 }
 
 // The number that a word says, if it has 16 bits.
-pub fn read_short(word: &[u8]) -> Short
-    ensures { λ r. ⌜ r ≡ shortIn (now (word .entry)) ⌝ }
+pub fn read_number16(word: &[u8]) -> Number16
+    ensures { λ r. ⌜ r ≡ number16In (now (word .entry)) ⌝ }
 {
     match read_number(word, 0xffff) {
-        Number::Bad => Short::Bad,
-        Number::Value(v) => Short::Value(v as u16),
+        Number::Bad => Number16::Bad,
+        Number::Value(v) => Number16::Value(v as u16),
     }
 }
 
 // The number that a word says, if it has 32 bits.
-pub fn read_long(word: &[u8]) -> Long
-    ensures { λ r. ⌜ r ≡ longIn (now (word .entry)) ⌝ }
+pub fn read_number32(word: &[u8]) -> Number32
+    ensures { λ r. ⌜ r ≡ number32In (now (word .entry)) ⌝ }
 {
     match read_number(word, 0xffffffff) {
-        Number::Bad => Long::Bad,
-        Number::Value(v) => Long::Value(v as u32),
+        Number::Bad => Number32::Bad,
+        Number::Value(v) => Number32::Value(v as u32),
     }
 }
 

@@ -6,8 +6,8 @@ use borrow.Author.Needs.{needs}
 use Rattle.text.proofs.name.read_name.Statement.{statement}
 use Rattle.text.proofs.name.read_name.Tie as tie
 
-read-short-requires : tie.Need-read-short-requires
-read-short-requires c κs = search needs
+read-number16-requires : tie.Need-read-number16-requires
+read-number16-requires c κs = search needs
 
 enum-told : tie.Need-enum-told
 enum-told c = search needs
@@ -27,7 +27,7 @@ enum-known-size c = search needs
 returns : tie.Need-returns
 unfolding nameIn addressIn
 returns c =
-    let p = sym (c .before .before .read-short .ensures) ∙ c .enum-told .given .1 in
+    let p = sym (c .before .before .read-number16 .ensures) ∙ c .enum-told .given .1 in
     (rw p, rw p)
 
 same-length : tie.Need-same-length
@@ -36,7 +36,7 @@ same-length c = search needs
 returns-2 : tie.Need-returns-2
 unfolding nameIn addressIn
 returns-2 c =
-    let p = sym (c .before .before .before .before .before .before .before .before .before .read-short .ensures) ∙ c .before .before .before .before .before .before .before .number .given .1 in
+    let p = sym (c .before .before .before .before .before .before .before .before .before .read-number16 .ensures) ∙ c .before .before .before .before .before .before .before .number .given .1 in
     let b = sym (c .before .before .before .before .read-bytes .ensures .0) ∙ c .enum-told2 .given .1 in
     (rw (p, b), rw p (c .before .before .before .before .read-bytes .ensures .1))
 
@@ -46,7 +46,7 @@ same-length-2 c = search needs
 returns-3 : tie.Need-returns-3
 unfolding nameIn addressIn
 returns-3 c =
-    let p = sym (c .before .before .before .before .before .before .before .before .before .before .read-short .ensures) ∙ c .before .before .before .before .before .before .before .before .number .given .1 in
+    let p = sym (c .before .before .before .before .before .before .before .before .before .before .read-number16 .ensures) ∙ c .before .before .before .before .before .before .before .before .number .given .1 in
     let b = sym (c .before .before .before .before .before .read-bytes .ensures .0) ∙ c .before .size .given .1 in
     (rw (p, b), rw p (c .before .before .before .before .before .read-bytes .ensures .1))
 
@@ -54,7 +54,7 @@ pub read-name-spec : {M : Type 1} → statement M
 read-name-spec =
     tie.close
     (tie.spec
-    read-short-requires
+    read-number16-requires
     enum-told
     enum-known-number
     read-bytes-requires

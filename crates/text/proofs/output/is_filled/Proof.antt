@@ -1,4 +1,4 @@
--- `text::line::is_filled` meets its contract: every byte before the place is `b`.
+-- `text::output::is_filled` meets its contract: every byte before the place is `b`.
 -- Assumes nothing.
 use Prim.Native.Nat.{_-_, _≤_, _<_}
 use mathlib.Core.Path.{refl}
@@ -8,8 +8,8 @@ use lib.ListN.{length}
 use borrow.Author.Needs.{needs}
 use borrow.Author.Tests.{eq-eqb, ne-eqb}
 use Rattle.text.proofs.Places.{Passed, passed-on, passed-not, passed-all}
-use Rattle.text.proofs.line.is_filled.Statement.{statement}
-use Rattle.text.proofs.line.is_filled.Tie as tie
+use Rattle.text.proofs.output.is_filled.Statement.{statement}
+use Rattle.text.proofs.output.is_filled.Tie as tie
 
 abbrev Inv-loop : tie.InvT-loop
 Inv-loop bytes b i₀ i = (i ≤ length bytes) × Passed (λ x. eqb x b) bytes i

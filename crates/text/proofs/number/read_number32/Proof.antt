@@ -1,12 +1,12 @@
--- `text::number::read_long` meets its contract: a number that was read has at most 32 bits.
+-- `text::number::read_number32` meets its contract: a number that was read has at most 32 bits.
 -- Assumes nothing.
 use native.Mathlib.Omega.{arith}
 use mathlib.Core.Path.{ap, sym, _∙_}
-use Rattle.text.specs.Number.{asLong, longIn}
+use Rattle.text.specs.Number.{as32, number32In}
 use Rattle.text.proofs.Numbers.{at-most}
 use borrow.Author.Needs.{needs}
-use Rattle.text.proofs.number.read_long.Statement.{statement}
-use Rattle.text.proofs.number.read_long.Tie as tie
+use Rattle.text.proofs.number.read_number32.Statement.{statement}
+use Rattle.text.proofs.number.read_number32.Tie as tie
 
 read-number-requires : tie.Need-read-number-requires
 read-number-requires c κs = search needs
@@ -21,13 +21,13 @@ cast-t5 : tie.Need-cast-t5
 cast-t5 c = omega (arith, at-most _ 4294967295 _ (sym (c .before .v .given .1) ∙ c .before .before .before .read-number .ensures))
 
 returns : tie.Need-returns
-unfolding longIn
-returns c = ap asLong (sym (c .enum-told .given .1) ∙ c .before .before .read-number .ensures)
+unfolding number32In
+returns c = ap as32 (sym (c .enum-told .given .1) ∙ c .before .before .read-number .ensures)
 
 returns-2 : tie.Need-returns-2
-unfolding longIn
-returns-2 c = ap asLong (sym (c .before .v .given .1) ∙ c .before .before .before .read-number .ensures)
+unfolding number32In
+returns-2 c = ap as32 (sym (c .before .v .given .1) ∙ c .before .before .before .read-number .ensures)
 
-pub read-long-spec : {M : Type 1} → statement M
-read-long-spec =
+pub read-number32-spec : {M : Type 1} → statement M
+read-number32-spec =
     tie.close (tie.spec read-number-requires enum-told enum-known-v cast-t5 returns returns-2)
