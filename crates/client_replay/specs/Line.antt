@@ -1,4 +1,4 @@
--- The replay format, "Lines out", of `client_replay`. What an answer says is the client's.
+-- The replay format (docs/REPLAY.md), "Lines out", of `client_replay`. What an answer says is the client's.
 -- Assumes nothing.
 use Prim.Native.Nat.{ℕ}
 use mathlib.Core.Bool.{Bool}

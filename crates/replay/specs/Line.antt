@@ -1,4 +1,4 @@
--- The replay format, "Lines out", of `replay`. What an answer says is the listener's.
+-- The replay format (docs/REPLAY.md), "Lines out", of `replay`. What an answer says is the listener's.
 -- Assumes nothing.
 use Prim.Native.Nat.{ℕ}
 use mathlib.Core.Bool.{Bool}

@@ -37,11 +37,6 @@ module _ (at : ℕ) (s out : List ℕ) where
   pub length-laid : length (laid at s out) ≡ length out
   length-laid = length-laid-by _ refl
 
--- a place in the buffer, or at its end, stays there
-pub place-within : (at n room : ℕ) → at ≤ room → placeAfter at n room ≤ room
-unfolding placeAfter
-place-within at n room h = omega arith
-
 -- ---- puts that follow one another
 
 pub place-place : (at m n room : ℕ) → placeAfter (placeAfter at m room) n room ≡ placeAfter at (m + n) room

@@ -1,4 +1,4 @@
--- The replay format: a byte string is an even number of hexadecimal digits, upper or lower case, or `-` for none.
+-- The replay format (docs/REPLAY.md): a byte string is pairs of hexadecimal digits, of either case, or `-` for no bytes.
 -- Assumes nothing.
 use Prim.Native.Nat.{ℕ, _+_, _-_, _*_, _/_, _%_}
 use mathlib.Core.List.{List, [], _∷_}

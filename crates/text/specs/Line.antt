@@ -1,4 +1,4 @@
--- The replay format, "Lines in": how long a line may be, and which print nothing.
+-- The replay format (docs/REPLAY.md), "Lines in": how long a line may be, and which print nothing.
 -- Assumes nothing.
 use Prim.Native.Nat.{ℕ, _+_, min}
 use mathlib.Core.List.{List, [], _∷_}

@@ -1,4 +1,4 @@
--- The replay format: ADDRESS PORT, a connection's name as two words.
+-- The replay format (docs/REPLAY.md): ADDRESS PORT, a connection's name as two words.
 -- Assumes nothing.
 use Prim.Native.Nat.{ℕ}
 use mathlib.Core.List.{List, []}

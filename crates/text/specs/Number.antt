@@ -1,4 +1,4 @@
--- The replay format: a number is decimal, leading zeros are allowed, and one too large for its argument is bad.
+-- The replay format (docs/REPLAY.md): decimal digits; leading zeros do not matter, and a number that its argument does not hold is bad.
 -- Assumes nothing.
 use Prim.Native.Nat.{ℕ, zero, suc, _+_, _-_, _*_, _/_, _%_}
 use mathlib.Core.List.{List, [], _∷_, _++_}

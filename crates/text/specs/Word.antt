@@ -1,4 +1,4 @@
--- The replay format, "Lines in": words are separated by one space.
+-- The replay format (docs/REPLAY.md), "Lines in": words are separated by one space.
 -- Assumes nothing.
 use Prim.Native.Nat.{ℕ, zero, suc}
 use mathlib.Core.List.{List, [], _∷_}
