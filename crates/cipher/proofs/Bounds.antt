@@ -1,4 +1,4 @@
--- An encrypted block is made of bytes, if the key schedule is. Assumes nothing.
+-- The S-box gives bytes, and an encrypted block is made of bytes, if the key schedule is. Assumes nothing.
 use mathlib.Core.List.{List, [], _∷_}
 use Prim.Native.Nat.{ℕ, zero, suc, _<_}
 use native.Mathlib.Omega.{arith}
@@ -17,7 +17,7 @@ unfolding affine affineBits
 affine-byte b =
     omega (arith, affine-bit b 0, affine-bit b 1, affine-bit b 2, affine-bit b 3, affine-bit b 4, affine-bit b 5, affine-bit b 6, affine-bit b 7)
 
-s-box-byte : (x : ℕ) → sBox x < 256
+pub s-box-byte : (x : ℕ) → sBox x < 256
 unfolding sBox
 s-box-byte x = affine-byte (inverse x)
 

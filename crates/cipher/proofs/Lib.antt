@@ -3,8 +3,8 @@ pub mod Words
 pub mod Table
 pub mod Inverse
 pub mod Xor
+pub mod Bounds
 pub mod Packed
 pub mod Rounds
-pub mod Bounds
 pub mod Schedule
 pub mod Vectors

@@ -1,23 +1,23 @@
 -- The rounds of the cipher, as the code goes through them.
 -- Assumes nothing.
 use mathlib.Core.Path.{_≡_, refl}
-use Prim.Native.Nat.{ℕ, _+_}
-use native.Mathlib.Numerals.{add-one}
+use Prim.Native.Nat.{ℕ, suc}
 use lib.ListN.{length}
 use Rattle.cipher.specs.Cipher.{Bytes, State, cipher, fromBlock, toBlock, rounds, addRoundKey, mixColumns, shiftRows, subBytes}
 
-round-more : (w : Bytes) (n : ℕ) (z : State) → rounds w (n + 1) z ≡ addRoundKey w (n + 1) (mixColumns (shiftRows (subBytes (rounds w n z))))
+pub no-round : (w : Bytes) (z : State) → z ≡ rounds w 0 z
 unfolding rounds
-round-more w n z = rw add-one
+no-round w z = refl
 
-pub round-done : (w : Bytes) (n : ℕ) (z : State) {s r : State} → s ≡ rounds w n z → r ≡ addRoundKey w (n + 1) (mixColumns (shiftRows (subBytes s)))
-    → r ≡ rounds w (n + 1) z
-round-done w n z h e = rw round-more (rw h at e)
+pub next-round : (w : Bytes) (z : State) (n : ℕ) {s r : State} → r ≡ addRoundKey w (suc n) (mixColumns (shiftRows (subBytes s))) → s ≡ rounds w n z
+    → r ≡ rounds w (suc n) z
+unfolding rounds
+next-round w z n e h = rw h at e
 
-pub cipher-done : (w b : Bytes) (n : ℕ) {y : Bytes} {l z s r : State} → l ≡ fromBlock b → z ≡ addRoundKey w 0 l → s ≡ rounds w n z → n ≡ 9
+pub cipher-done : (w b : Bytes) {y : Bytes} {l z s r : State} → l ≡ fromBlock b → z ≡ addRoundKey w 0 l → s ≡ rounds w 9 z
     → r ≡ addRoundKey w 10 (shiftRows (subBytes s)) → y ≡ toBlock r → y ≡ cipher w b
 unfolding cipher
-cipher-done w b n h i j k p q = cc
+cipher-done w b h i j p q = cc
 
 -- for the crates above: a block has 16 bytes
 pub block-length : (w b : Bytes) → length (cipher w b) ≡ 16

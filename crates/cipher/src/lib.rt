@@ -1,18 +1,19 @@
 // AES-128 of FIPS 197: the key expansion, and the encryption of one block.
 //
 // The state, four columns of four bytes, and the key schedule of 176 bytes pass by value through each round. To spare copies, the
-// functions inside a round are lent the schedule, and all are lent the S-box table. Numbers in brackets are sections of FIPS 197.
+// functions inside a round are lent the schedule, and all are lent the tables. Numbers in brackets are sections of FIPS 197.
 mod sbox;
+mod ttable;
 
 use sbox::s_box;
+use ttable::t_table;
 ghost use mathlib.Core.Path.{_≡_};
 ghost use mathlib.Core.List.{_++_};
 ghost use Prim.Native.Nat.{_+_, _*_, _<_, _≤_};
 ghost use lib.ListN.{length, take, drop};
-ghost use Rattle.cipher.specs.Field.{xtime};
-ghost use Rattle.cipher.specs.Cipher.{IsSBox, sBox, byte, four, word, xorWord, fromBlock, toBlock, subBytes, shiftRows, mixByte, mixColumns, addRoundKey, cipher};
+ghost use Rattle.cipher.specs.Cipher.{IsSBox, sBox, byte, four, word, xorWord, fromBlock, toBlock, subBytes, shiftRows, mixByte, mixColumns, addRoundKey, rounds, cipher};
 ghost use Rattle.cipher.specs.KeyExpansion.{rotWord, subWord, rcon, nextWord, keyExpansion};
-ghost use Rattle.cipher.specs.Packed.{bytesOf};
+ghost use Rattle.cipher.specs.Packed.{bytesOf, share, IsTTable};
 
 // Words
 
@@ -117,19 +118,7 @@ fn shift_rows(s: [[u8; 4]; 4]) -> [[u8; 4]; 4]
     ]
 }
 
-// MixColumns (5.1.3), on the four bytes of a column in one u32, byte 0 the lowest.
-
-fn pack(w: [u8; 4]) -> u32
-    ensures { λ r. ⌜ bytesOf r ≡ four (byte w) ⌝ }
-{
-    wide(w[0]) + wide(w[1]) * 256 + wide(w[2]) * 65536 + wide(w[3]) * 16777216
-}
-
-fn wide(b: u8) -> u32
-    ensures { λ r. ⌜ (r ≡ b) × (b < 256) ⌝ }
-{
-    b as u32
-}
+// SubBytes and MixColumns (5.1.3) of a column in one, on its four bytes in one u32, byte 0 the lowest.
 
 fn unpack(p: u32) -> [u8; 4]
     ensures { λ r. ⌜ r ≡ bytesOf p ⌝ }
@@ -142,14 +131,6 @@ fn unpack(p: u32) -> [u8; 4]
     ]
 }
 
-// Each byte times {02}: `high` has the top bit of each.
-fn xtime_each(p: u32) -> u32
-    ensures { λ r. ⌜ bytesOf r ≡ four (λ i. xtime (byte (bytesOf p) i)) ⌝ }
-{
-    let high = p & 0x80808080;
-    (p - high) * 2 ^ high / 128 * 0x1b
-}
-
 // Byte r + 1 in the place of byte r.
 fn rotate(p: u32) -> u32
     ensures { λ r. ⌜ bytesOf r ≡ rotWord (bytesOf p) ⌝ }
@@ -157,25 +138,35 @@ fn rotate(p: u32) -> u32
     p / 256 + p % 256 * 16777216
 }
 
-// With the bytes a, b, c, d from r on, byte r becomes 2 a + 3 b + c + d. That is 2 (a + b) + b + (c + d), where the sum of two
-// neighbours serves twice.
-fn mix_column(w: [u8; 4]) -> [u8; 4]
-    ensures { λ r. ⌜ r ≡ four (mixByte w) ⌝ }
+// What x, in row 0, adds to its column.
+fn share_of(t: &[u32; 256], x: u8) -> u32
+    requires { ⌜ IsTTable (now t) ⌝ }
+    ensures { λ r. ⌜ bytesOf r ≡ share (sBox x) ⌝ }
 {
-    let one = pack(w);
-    let next = rotate(one);
-    let sum = one ^ next;
-    unpack(xtime_each(sum) ^ next ^ rotate(rotate(sum)))
+    t[x as usize]
 }
 
-fn mix_columns(s: [[u8; 4]; 4]) -> [[u8; 4]; 4]
-    ensures { λ r. ⌜ r ≡ mixColumns s ⌝ }
+// In row r a byte adds the same as in row 0, r places on; that is 4 - r places back.
+fn sub_mix_column(t: &[u32; 256], w: [u8; 4]) -> [u8; 4]
+    requires { ⌜ IsTTable (now t) ⌝ }
+    ensures { λ r. ⌜ r ≡ four (mixByte (subWord w)) ⌝ }
+{
+    let row0 = share_of(t, w[0]);
+    let row1 = rotate(rotate(rotate(share_of(t, w[1]))));
+    let row2 = rotate(rotate(share_of(t, w[2])));
+    let row3 = rotate(share_of(t, w[3]));
+    unpack(row0 ^ row1 ^ row2 ^ row3)
+}
+
+fn sub_mix_columns(t: &[u32; 256], s: [[u8; 4]; 4]) -> [[u8; 4]; 4]
+    requires { ⌜ IsTTable (now t) ⌝ }
+    ensures { λ r. ⌜ r ≡ mixColumns (subBytes s) ⌝ }
 {
     [
-        mix_column(s[0]),
-        mix_column(s[1]),
-        mix_column(s[2]),
-        mix_column(s[3]),
+        sub_mix_column(t, s[0]),
+        sub_mix_column(t, s[1]),
+        sub_mix_column(t, s[2]),
+        sub_mix_column(t, s[3]),
     ]
 }
 
@@ -203,12 +194,28 @@ fn add_round_key(s: [[u8; 4]; 4], w: &[u8; 176], n: usize) -> [[u8; 4]; 4]
 
 // Cipher (5.1)
 
-// Round n, from 1 to 9.
-fn round(s: [[u8; 4]; 4], round_keys: [u8; 176], t: &[u8; 256], n: usize) -> [[u8; 4]; 4]
-    requires { ⌜ IsSBox (now t) × (n ≤ 10) ⌝ }
+// Round n, from 1 to 9. ShiftRows comes first, since SubBytes is the same for every byte.
+fn round(s: [[u8; 4]; 4], round_keys: [u8; 176], t: &[u32; 256], n: usize) -> [[u8; 4]; 4]
+    requires { ⌜ IsTTable (now t) × (n ≤ 10) ⌝ }
     ensures { λ r. ⌜ r ≡ addRoundKey «round_keys» n (mixColumns (shiftRows (subBytes s))) ⌝ }
 {
-    add_round_key(mix_columns(shift_rows(sub_bytes(t, s))), &round_keys, n)
+    add_round_key(sub_mix_columns(t, shift_rows(s)), &round_keys, n)
+}
+
+// Rounds 1 to 9. No loop: where the number of a round is a constant, its round key is read in place and the schedule is not copied.
+fn nine_rounds(s: [[u8; 4]; 4], round_keys: [u8; 176], t: &[u32; 256]) -> [[u8; 4]; 4]
+    requires { ⌜ IsTTable (now t) ⌝ }
+    ensures { λ r. ⌜ r ≡ rounds «round_keys» 9 s ⌝ }
+{
+    let s1 = round(s, round_keys, t, 1);
+    let s2 = round(s1, round_keys, t, 2);
+    let s3 = round(s2, round_keys, t, 3);
+    let s4 = round(s3, round_keys, t, 4);
+    let s5 = round(s4, round_keys, t, 5);
+    let s6 = round(s5, round_keys, t, 6);
+    let s7 = round(s6, round_keys, t, 7);
+    let s8 = round(s7, round_keys, t, 8);
+    round(s8, round_keys, t, 9)
 }
 
 // Round 10, which mixes no columns.
@@ -224,15 +231,11 @@ fn last_round(s: [[u8; 4]; 4], round_keys: [u8; 176], t: &[u8; 256]) -> [[u8; 4]
 pub fn encrypt(round_keys: [u8; 176], block: [u8; 16]) -> [u8; 16]
     ensures { λ r. ⌜ r ≡ cipher «round_keys» block ⌝ }
 {
+    let shares = t_table();
+    let s = add_round_key(from_block(block), &round_keys, 0);
+    let s9 = nine_rounds(s, round_keys, &shares);
     let t = s_box();
-    let mut s = add_round_key(from_block(block), &round_keys, 0);
-    let mut n: usize = 0;
-    while n < 9 {
-        n += 1;
-        let next = round(s, round_keys, &t, n);
-        s = next;
-    }
-    to_block(last_round(s, round_keys, &t))
+    to_block(last_round(s9, round_keys, &t))
 }
 
 // KeyExpansion (5.2)

@@ -1,34 +1,26 @@
 -- `cipher::round` meets its contract.
 -- Assumes nothing.
 use mathlib.Core.Path.{_∙_, ap}
-use Rattle.cipher.specs.Cipher.{State, addRoundKey, mixColumns, shiftRows}
+use Rattle.cipher.specs.Cipher.{State, addRoundKey, mixColumns, subBytes}
 use borrow.Author.Needs.{needs}
 use Rattle.cipher.proofs.round.Statement.{statement}
 use Rattle.cipher.proofs.round.Tie as tie
 
-sub-bytes-requires : tie.Need-sub-bytes-requires
-sub-bytes-requires c κs = search needs
-
 shift-rows-requires : tie.Need-shift-rows-requires
 shift-rows-requires c κs = search needs
 
-mix-columns-requires : tie.Need-mix-columns-requires
-mix-columns-requires c κs = search needs
+sub-mix-columns-requires : tie.Need-sub-mix-columns-requires
+sub-mix-columns-requires c κs = search needs
 
 add-round-key-requires : tie.Need-add-round-key-requires
 add-round-key-requires c κs = search needs
 
 returns : tie.Need-returns
 returns c = c .add-round-key .ensures
-    ∙ ap (λ (x : State). addRoundKey (c .before .before .before .before .before .args .t2) (c .before .before .before .before .before .args .n) x)
-    (c .before .before .mix-columns .ensures ∙ ap mixColumns (c .before .before .before .shift-rows .ensures ∙ ap shiftRows (c .before .before .before .before .sub-bytes .ensures)))
+    ∙ ap (λ (x : State). addRoundKey (c .before .before .before .before .args .t2) (c .before .before .before .before .args .n) x)
+    (c .before .before .sub-mix-columns .ensures ∙ ap (λ (x : State). mixColumns (subBytes x)) (c .before .before .before .shift-rows .ensures))
 
 pub round-spec : {M : Type 1} → statement M
 round-spec =
     tie.close
-    (tie.spec
-    sub-bytes-requires
-    shift-rows-requires
-    mix-columns-requires
-    add-round-key-requires
-    returns)
+    (tie.spec shift-rows-requires sub-mix-columns-requires add-round-key-requires returns)
