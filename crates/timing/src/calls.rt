@@ -1,7 +1,7 @@
 // Whole calls of a listener, as a program makes them: the listener goes into a call and comes back in its outcome.
 use crate::data;
 use crate::data::wide;
-use listener::answer::Outcome;
+use listener::answer::Event;
 use listener::answer::accepted_count;
 use listener::answer::event_number;
 use listener::calls::abandon;
@@ -9,6 +9,7 @@ use listener::calls::close;
 use listener::calls::segment;
 use listener::calls::set_settings;
 use listener::calls::start;
+use listener::state::Listener;
 use listener::state::Settings;
 use segment::sequence::next_after;
 use std::num::wrapping_add_u64;
@@ -30,31 +31,16 @@ fn checksum_field(written: usize, out: &[u8; 36]) -> u64 {
 }
 
 // A digest with what one call answered.
-fn add(digest: u64, o: Outcome, out: &[u8; 36]) -> u64 {
-    let event = o.event;
+fn add(digest: u64, event: Event, written: usize, out: &[u8; 36]) -> u64 {
     let verdict = wrapping_add_u64(wide(event_number(event)), accepted_count(event) as u64);
-    let output = wrapping_add_u64(o.written as u64, checksum_field(o.written, out));
+    let output = wrapping_add_u64(written as u64, checksum_field(written, out));
     wrapping_add_u64(digest, wrapping_add_u64(verdict, output))
-}
-
-// The calls, each on the listener of the outcome before.
-
-fn take(before: Outcome, peer: &[u8; 4], seg: &[u8], iss: u32, out: &mut [u8; 36]) -> Outcome {
-    segment(before.listener, 0, peer, seg, iss, out)
-}
-
-fn abandon_peer(before: Outcome, peer: &[u8; 4]) -> Outcome {
-    abandon(before.listener, 0, peer, data::PEER_PORT)
-}
-
-fn close_peer(before: Outcome, peer: &[u8; 4]) -> Outcome {
-    close(before.listener, 0, peer, data::PEER_PORT)
 }
 
 // Before the loops
 
 // A listener that is on, with no connection.
-fn empty_listener() -> Outcome {
+fn empty_listener() -> Listener {
     let started = start(&data::own(), data::OWN_PORT, &data::key());
     let settings = Settings {
         on: true,
@@ -63,7 +49,8 @@ fn empty_listener() -> Outcome {
         hold: 0,
         mss: 1460,
     };
-    set_settings(started.listener, 0, settings)
+    let o = set_settings(started.listener, 0, settings);
+    o.listener
 }
 
 // The cookie of the peer's address, from the answer to a request.
@@ -71,8 +58,9 @@ fn cookie_of_peer(peer: &[u8; 4]) -> [u8; 8] {
     let mut request = [0u8; 1520];
     let n = data::put_opening(&mut request, peer, data::PEER_PORT, &[], &[]);
     let mut out = [0u8; 36];
-    take(
+    segment(
         empty_listener(),
+        0,
         peer,
         data::first(&request, n),
         ISS,
@@ -91,23 +79,24 @@ fn cookie_of_peer(peer: &[u8; 4]) -> [u8; 8] {
 }
 
 // The listener after one request more.
-fn with_connection(before: Outcome, peer: &[u8; 4], port: u16) -> Outcome {
+fn with_connection(l: Listener, peer: &[u8; 4], port: u16) -> Listener {
     let mut request = [0u8; 1520];
     let n = data::put_opening(&mut request, peer, port, &[], &[]);
     let mut out = [0u8; 36];
-    take(before, peer, data::first(&request, n), ISS, &mut out)
+    let o = segment(l, 0, peer, data::first(&request, n), ISS, &mut out);
+    o.listener
 }
 
 // A listener that has answered so many requests, from the ports 50,000 on. There are 64 slots.
-fn listener_with(peer: &[u8; 4], live: u64) -> Outcome {
-    let mut o = empty_listener();
+fn listener_with(peer: &[u8; 4], live: u64) -> Listener {
+    let mut l = empty_listener();
     let mut k: u64 = 0;
     while k < live {
-        let next = with_connection(o, peer, (50000 + k % 64) as u16);
-        o = next;
+        let next = with_connection(l, peer, (50000 + k % 64) as u16);
+        l = next;
         k += 1;
     }
-    o
+    l
 }
 
 // The early opening, at the start of a buffer of a segment's greatest length.
@@ -122,39 +111,38 @@ fn put_early(out: &mut [u8; 1520], peer: &[u8; 4], payload: u64) -> usize {
     )
 }
 
-// The loops. Two outcomes take turns, so that the loop copies no listener: a call reads it in the one and lays it in the other.
+// The loops, as any user of the library writes them: the listener of an outcome goes into the next call.
 
 // Each turn an opening and its abandon.
-fn open_and_abandon(before: Outcome, peer: &[u8; 4], count: u64, opening: &[u8]) -> u64 {
+fn open_and_abandon(start: Listener, peer: &[u8; 4], count: u64, opening: &[u8]) -> u64 {
     let mut out = [0u8; 36];
-    let mut last = before;
+    let mut l = start;
     let mut digest: u64 = 0;
     let mut turn: u64 = 0;
     while turn < count {
-        let opened = take(last, peer, opening, iss_at(turn), &mut out);
-        digest = add(digest, opened, &out);
-        last = abandon_peer(opened, peer);
-        digest = add(digest, last, &out);
+        let opened = segment(l, 0, peer, opening, iss_at(turn), &mut out);
+        let event = opened.event;
+        digest = add(digest, event, opened.written, &out);
+        let left = abandon(opened.listener, 0, peer, data::PEER_PORT);
+        let end = left.event;
+        digest = add(digest, end, left.written, &out);
+        l = left.listener;
         turn += 1;
     }
     digest
 }
 
 // Each turn a segment that leaves the table as it was.
-fn take_again(before: Outcome, peer: &[u8; 4], count: u64, seg: &[u8]) -> u64 {
+fn take_again(start: Listener, peer: &[u8; 4], count: u64, seg: &[u8]) -> u64 {
     let mut out = [0u8; 36];
-    let mut last = before;
+    let mut l = start;
     let mut digest: u64 = 0;
     let mut turn: u64 = 0;
     while turn < count {
-        let odd = take(last, peer, seg, iss_at(turn), &mut out);
-        digest = add(digest, odd, &out);
-        turn += 1;
-        if turn == count {
-            return digest;
-        }
-        last = take(odd, peer, seg, iss_at(turn), &mut out);
-        digest = add(digest, last, &out);
+        let o = segment(l, 0, peer, seg, iss_at(turn), &mut out);
+        let event = o.event;
+        digest = add(digest, event, o.written, &out);
+        l = o.listener;
         turn += 1;
     }
     digest
@@ -162,43 +150,43 @@ fn take_again(before: Outcome, peer: &[u8; 4], count: u64, seg: &[u8]) -> u64 {
 
 // Each turn an opening, its completion and its close.
 fn complete_and_close(
-    before: Outcome,
+    start: Listener,
     peer: &[u8; 4],
     count: u64,
     opening: &[u8],
     completion: &[u8],
 ) -> u64 {
     let mut out = [0u8; 36];
-    let mut last = before;
+    let mut l = start;
     let mut digest: u64 = 0;
     let mut turn: u64 = 0;
     while turn < count {
-        let opened = take(last, peer, opening, ISS, &mut out);
-        digest = add(digest, opened, &out);
-        let completed = take(opened, peer, completion, iss_at(turn), &mut out);
-        digest = add(digest, completed, &out);
-        last = close_peer(completed, peer);
-        digest = add(digest, last, &out);
+        let opened = segment(l, 0, peer, opening, ISS, &mut out);
+        let event = opened.event;
+        digest = add(digest, event, opened.written, &out);
+        let completed = segment(opened.listener, 0, peer, completion, iss_at(turn), &mut out);
+        let done = completed.event;
+        digest = add(digest, done, completed.written, &out);
+        let left = close(completed.listener, 0, peer, data::PEER_PORT);
+        let end = left.event;
+        digest = add(digest, end, left.written, &out);
+        l = left.listener;
         turn += 1;
     }
     digest
 }
 
 // Each turn the abandon of a name that is not in the table.
-fn abandon_again(before: Outcome, peer: &[u8; 4], count: u64) -> u64 {
+fn abandon_again(start: Listener, peer: &[u8; 4], count: u64) -> u64 {
     let out = [0u8; 36];
-    let mut last = before;
+    let mut l = start;
     let mut digest: u64 = 0;
     let mut turn: u64 = 0;
     while turn < count {
-        let odd = abandon_peer(last, peer);
-        digest = add(digest, odd, &out);
-        turn += 1;
-        if turn == count {
-            return digest;
-        }
-        last = abandon_peer(odd, peer);
-        digest = add(digest, last, &out);
+        let o = abandon(l, 0, peer, data::PEER_PORT);
+        let event = o.event;
+        digest = add(digest, event, o.written, &out);
+        l = o.listener;
         turn += 1;
     }
     digest
@@ -233,8 +221,8 @@ pub fn repeat(peer: &[u8; 4], count: u64, live: u64, payload: u64) -> u64 {
     let n = put_early(&mut opening, peer, payload);
     let seg = data::first(&opening, n);
     let mut out = [0u8; 36];
-    let opened = take(listener_with(peer, live), peer, seg, ISS, &mut out);
-    take_again(opened, peer, count, seg)
+    let opened = segment(listener_with(peer, live), 0, peer, seg, ISS, &mut out);
+    take_again(opened.listener, peer, count, seg)
 }
 
 // The sequence number of a completion follows the bytes that its opening's answer accepts.
@@ -242,12 +230,12 @@ pub fn completion(peer: &[u8; 4], count: u64, live: u64, payload: u64) -> u64 {
     let mut opening = [0u8; 1520];
     let n = put_early(&mut opening, peer, payload);
     let seg = data::first(&opening, n);
-    let o = listener_with(peer, live);
+    let l = listener_with(peer, live);
     let mut out = [0u8; 36];
-    let opened = take(o, peer, seg, ISS, &mut out);
+    let opened = segment(l, 0, peer, seg, ISS, &mut out);
     let event = opened.event;
     let seq = next_after(data::IRS, accepted_count(event));
-    complete_and_close(o, peer, count, seg, &data::completion(peer, seq, ISS + 1))
+    complete_and_close(l, peer, count, seg, &data::completion(peer, seq, ISS + 1))
 }
 
 // The early opening with its last byte changed, so that its checksum is wrong.

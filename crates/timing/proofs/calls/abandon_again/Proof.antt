@@ -6,16 +6,16 @@ use Rattle.timing.proofs.calls.abandon_again.Statement.{statement}
 use Rattle.timing.proofs.calls.abandon_again.Tie as tie
 
 abbrev Inv-loop : tie.InvT-loop
-Inv-loop peer count out last₀ digest₀ turn₀ last digest turn = turn ≤ count
+Inv-loop peer count out l₀ digest₀ turn₀ l digest turn = turn ≤ count
 
 abbrev μ-loop : tie.MeasureT-loop
-μ-loop peer count out last₀ digest₀ turn₀ last digest turn = count - turn
+μ-loop peer count out l₀ digest₀ turn₀ l digest turn = count - turn
 
 loop-holds : tie.Need-loop-holds Inv-loop μ-loop
 loop-holds c = search needs
 
-abandon-peer-requires : tie.Need-abandon-peer-requires Inv-loop μ-loop
-abandon-peer-requires c κs = search needs
+abandon-requires : tie.Need-abandon-requires Inv-loop μ-loop
+abandon-requires c κs = search needs
 
 add-requires : tie.Need-add-requires Inv-loop μ-loop
 add-requires c κs = search needs
@@ -23,26 +23,14 @@ add-requires c κs = search needs
 add-turn : tie.Need-add-turn Inv-loop μ-loop
 add-turn c = search needs
 
-returns : tie.Need-returns Inv-loop μ-loop
-returns c = search needs
-
-abandon-peer-requires-2 : tie.Need-abandon-peer-requires-2 Inv-loop μ-loop
-abandon-peer-requires-2 c κs = search needs
-
-add-requires-2 : tie.Need-add-requires-2 Inv-loop μ-loop
-add-requires-2 c κs = search needs
-
-add-turn-2 : tie.Need-add-turn-2 Inv-loop μ-loop
-add-turn-2 c = search needs
-
 loop-less : tie.Need-loop-less Inv-loop μ-loop
 loop-less c = search needs
 
 loop-again : tie.Need-loop-again Inv-loop μ-loop
 loop-again c = search needs
 
-returns-2 : tie.Need-returns-2 Inv-loop μ-loop
-returns-2 c = search needs
+returns : tie.Need-returns Inv-loop μ-loop
+returns c = search needs
 
 pub abandon-again-spec : {M : Type 1} → statement M
 abandon-again-spec =
@@ -51,13 +39,9 @@ abandon-again-spec =
     Inv-loop
     μ-loop
     loop-holds
-    abandon-peer-requires
+    abandon-requires
     add-requires
     add-turn
-    returns
-    abandon-peer-requires-2
-    add-requires-2
-    add-turn-2
     loop-less
     loop-again
-    returns-2)
+    returns)

@@ -1,22 +1,27 @@
 -- `timing::calls::complete_and_close` ends: turn rises to the count.
 -- Assumes nothing.
 use Prim.Native.Nat.{_≤_, _-_}
+use mathlib.Core.Path.{_≡_}
 use native.Mathlib.Omega.{arith}
+use lib.ListN.{length}
 use borrow.Author.Needs.{needs}
 use Rattle.timing.proofs.calls.complete_and_close.Statement.{statement}
 use Rattle.timing.proofs.calls.complete_and_close.Tie as tie
 
 abbrev Inv-loop : tie.InvT-loop
-Inv-loop peer count opening completion out₀ last₀ digest₀ turn₀ out last digest turn = turn ≤ count
+Inv-loop peer count opening completion out₀ l₀ digest₀ turn₀ out l digest turn = (turn ≤ count) × (length out ≡ 36)
 
 abbrev μ-loop : tie.MeasureT-loop
-μ-loop peer count opening completion out₀ last₀ digest₀ turn₀ out last digest turn = count - turn
+μ-loop peer count opening completion out₀ l₀ digest₀ turn₀ out l digest turn = count - turn
 
 loop-holds : tie.Need-loop-holds Inv-loop μ-loop
 loop-holds c = search needs
 
-take-requires : tie.Need-take-requires Inv-loop μ-loop
-take-requires c κs = search needs
+slice-aggregate-segment : tie.Need-slice-aggregate-segment Inv-loop μ-loop
+slice-aggregate-segment c = search needs
+
+segment-requires : tie.Need-segment-requires Inv-loop μ-loop
+segment-requires c κs = search needs
 
 add-requires : tie.Need-add-requires Inv-loop μ-loop
 add-requires c κs = search needs
@@ -24,26 +29,29 @@ add-requires c κs = search needs
 iss-at-requires : tie.Need-iss-at-requires Inv-loop μ-loop
 iss-at-requires c κs = search needs
 
-take-requires-2 : tie.Need-take-requires-2 Inv-loop μ-loop
-take-requires-2 c κs = search needs
+slice-aggregate-segment-2 : tie.Need-slice-aggregate-segment-2 Inv-loop μ-loop
+slice-aggregate-segment-2 c = search needs
+
+segment-requires-2 : tie.Need-segment-requires-2 Inv-loop μ-loop
+segment-requires-2 c κs = search needs
 
 add-requires-2 : tie.Need-add-requires-2 Inv-loop μ-loop
 add-requires-2 c κs = search needs
 
-close-peer-requires : tie.Need-close-peer-requires Inv-loop μ-loop
-close-peer-requires c κs = search needs
+close-requires : tie.Need-close-requires Inv-loop μ-loop
+close-requires c κs = search needs
 
 add-requires-3 : tie.Need-add-requires-3 Inv-loop μ-loop
 add-requires-3 c κs = search needs
 
 add-turn : tie.Need-add-turn Inv-loop μ-loop
-add-turn c = omega (arith, c .before .before .before .before .before .before .before .before .before .before .before .before .loop-test .taken, c .before .before .before .before .before .before .before .before .before .before .before .before .before .before .before .before .fits .count)
+add-turn c = omega (arith, c .before .before .before .before .before .before .before .before .before .before .before .before .before .before .before .before .before .before .loop-test .taken, c .before .before .before .before .before .before .before .before .before .before .before .before .before .before .before .before .before .before .before .before .before .before .fits .count)
 
 loop-less : tie.Need-loop-less Inv-loop μ-loop
-loop-less c = omega (arith, c .before .before .before .before .before .before .before .before .before .before .before .before .loop-test .taken)
+loop-less c = omega (arith, c .before .before .before .before .before .before .before .before .before .before .before .before .before .before .before .before .before .before .loop-test .taken)
 
 loop-again : tie.Need-loop-again Inv-loop μ-loop
-loop-again c = omega (arith, c .before .before .before .before .before .before .before .before .before .before .before .before .loop-test .taken)
+loop-again c = (omega (arith, c .before .before .before .before .before .before .before .before .before .before .before .before .before .before .before .before .before .before .loop-test .taken), search needs)
 
 returns : tie.Need-returns Inv-loop μ-loop
 returns c = search needs
@@ -55,12 +63,14 @@ complete-and-close-spec =
     Inv-loop
     μ-loop
     loop-holds
-    take-requires
+    slice-aggregate-segment
+    segment-requires
     add-requires
     iss-at-requires
-    take-requires-2
+    slice-aggregate-segment-2
+    segment-requires-2
     add-requires-2
-    close-peer-requires
+    close-requires
     add-requires-3
     add-turn
     loop-less

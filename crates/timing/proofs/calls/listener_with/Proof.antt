@@ -1,4 +1,4 @@
--- `timing::calls::listener_with` ends: k rises to the number asked for.
+-- `timing::calls::listener_with` ends: k rises to the number asked.
 -- Assumes nothing.
 use Prim.Native.Nat.{_≤_, _-_}
 use borrow.Author.Needs.{needs}
@@ -6,10 +6,10 @@ use Rattle.timing.proofs.calls.listener_with.Statement.{statement}
 use Rattle.timing.proofs.calls.listener_with.Tie as tie
 
 abbrev Inv-loop : tie.InvT-loop
-Inv-loop peer live o₀ k₀ o k = k ≤ live
+Inv-loop peer live l₀ k₀ l k = k ≤ live
 
 abbrev μ-loop : tie.MeasureT-loop
-μ-loop peer live o₀ k₀ o k = live - k
+μ-loop peer live l₀ k₀ l k = live - k
 
 empty-listener-requires : tie.Need-empty-listener-requires Inv-loop μ-loop
 empty-listener-requires c κs = search needs

@@ -1,15 +1,18 @@
 -- `timing::calls::open_and_abandon` ends: turn rises to the count.
 -- Assumes nothing.
 use Prim.Native.Nat.{_≤_, _-_}
+use mathlib.Core.Path.{_≡_}
+use native.Mathlib.Omega.{arith}
+use lib.ListN.{length}
 use borrow.Author.Needs.{needs}
 use Rattle.timing.proofs.calls.open_and_abandon.Statement.{statement}
 use Rattle.timing.proofs.calls.open_and_abandon.Tie as tie
 
 abbrev Inv-loop : tie.InvT-loop
-Inv-loop peer count opening out₀ last₀ digest₀ turn₀ out last digest turn = turn ≤ count
+Inv-loop peer count opening out₀ l₀ digest₀ turn₀ out l digest turn = (turn ≤ count) × (length out ≡ 36)
 
 abbrev μ-loop : tie.MeasureT-loop
-μ-loop peer count opening out₀ last₀ digest₀ turn₀ out last digest turn = count - turn
+μ-loop peer count opening out₀ l₀ digest₀ turn₀ out l digest turn = count - turn
 
 loop-holds : tie.Need-loop-holds Inv-loop μ-loop
 loop-holds c = search needs
@@ -17,20 +20,23 @@ loop-holds c = search needs
 iss-at-requires : tie.Need-iss-at-requires Inv-loop μ-loop
 iss-at-requires c κs = search needs
 
-take-requires : tie.Need-take-requires Inv-loop μ-loop
-take-requires c κs = search needs
+slice-aggregate-segment : tie.Need-slice-aggregate-segment Inv-loop μ-loop
+slice-aggregate-segment c = search needs
+
+segment-requires : tie.Need-segment-requires Inv-loop μ-loop
+segment-requires c κs = search needs
 
 add-requires : tie.Need-add-requires Inv-loop μ-loop
 add-requires c κs = search needs
 
-abandon-peer-requires : tie.Need-abandon-peer-requires Inv-loop μ-loop
-abandon-peer-requires c κs = search needs
+abandon-requires : tie.Need-abandon-requires Inv-loop μ-loop
+abandon-requires c κs = search needs
 
 add-requires-2 : tie.Need-add-requires-2 Inv-loop μ-loop
 add-requires-2 c κs = search needs
 
 add-turn : tie.Need-add-turn Inv-loop μ-loop
-add-turn c = search needs
+add-turn c = omega (arith, c .before .before .before .before .before .before .before .before .before .before .before .before .loop-test .taken, c .before .before .before .before .before .before .before .before .before .before .before .before .before .before .before .fits .count)
 
 loop-less : tie.Need-loop-less Inv-loop μ-loop
 loop-less c = search needs
@@ -49,9 +55,10 @@ open-and-abandon-spec =
     μ-loop
     loop-holds
     iss-at-requires
-    take-requires
+    slice-aggregate-segment
+    segment-requires
     add-requires
-    abandon-peer-requires
+    abandon-requires
     add-requires-2
     add-turn
     loop-less
