@@ -7,6 +7,7 @@ mod listener;
 mod segment;
 
 use crate::script::Session;
+use crate::wire::LAST_TIME;
 use line::Line;
 
 pub use client::generate as client;
@@ -58,6 +59,15 @@ impl Rng {
             left -= weight;
         }
         unreachable!("left is below the sum of the weights")
+    }
+
+    /// A time that is refused: before the clock, or past the last one.
+    fn bad_time(&mut self, clock: u64) -> u64 {
+        let late = self.pick(&[LAST_TIME + 1, LAST_TIME + 2, 1 << 49, u64::MAX - 1, u64::MAX]);
+        match clock {
+            0 => late,
+            _ => self.pick(&[clock - 1, clock - 1, 0, clock / 2, late]),
+        }
     }
 
     /// A sequence number, often where the count wraps.

@@ -267,12 +267,7 @@ impl Maker {
 
     fn bad_time(&mut self) -> u64 {
         let clock = self.clock();
-        let rng = &mut self.script.rng;
-        let late = rng.pick(&[LAST_TIME + 1, LAST_TIME + 2, 1 << 49, u64::MAX - 1, u64::MAX]);
-        match clock {
-            0 => late,
-            _ => rng.pick(&[clock - 1, clock - 1, 0, clock / 2, late]),
-        }
+        self.script.rng.bad_time(clock)
     }
 
     /// Another address than the one meant: of a wrong length, or another's.
