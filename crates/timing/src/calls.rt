@@ -194,7 +194,7 @@ fn abandon_again(start: Listener, peer: &[u8; 4], count: u64) -> u64 {
 
 // The works
 
-pub fn early(peer: &[u8; 4], count: u64, live: u64, payload: u64) -> u64 {
+pub(crate) fn early(peer: &[u8; 4], count: u64, live: u64, payload: u64) -> u64 {
     let mut opening = [0u8; 1520];
     let n = put_early(&mut opening, peer, payload);
     open_and_abandon(
@@ -205,7 +205,7 @@ pub fn early(peer: &[u8; 4], count: u64, live: u64, payload: u64) -> u64 {
     )
 }
 
-pub fn request(peer: &[u8; 4], count: u64, live: u64) -> u64 {
+pub(crate) fn request(peer: &[u8; 4], count: u64, live: u64) -> u64 {
     let mut opening = [0u8; 1520];
     let n = data::put_opening(&mut opening, peer, data::PEER_PORT, &[], &[]);
     open_and_abandon(
@@ -216,7 +216,7 @@ pub fn request(peer: &[u8; 4], count: u64, live: u64) -> u64 {
     )
 }
 
-pub fn repeat(peer: &[u8; 4], count: u64, live: u64, payload: u64) -> u64 {
+pub(crate) fn repeat(peer: &[u8; 4], count: u64, live: u64, payload: u64) -> u64 {
     let mut opening = [0u8; 1520];
     let n = put_early(&mut opening, peer, payload);
     let seg = data::first(&opening, n);
@@ -226,7 +226,7 @@ pub fn repeat(peer: &[u8; 4], count: u64, live: u64, payload: u64) -> u64 {
 }
 
 // The sequence number of a completion follows the bytes that its opening's answer accepts.
-pub fn completion(peer: &[u8; 4], count: u64, live: u64, payload: u64) -> u64 {
+pub(crate) fn completion(peer: &[u8; 4], count: u64, live: u64, payload: u64) -> u64 {
     let mut opening = [0u8; 1520];
     let n = put_early(&mut opening, peer, payload);
     let seg = data::first(&opening, n);
@@ -239,7 +239,7 @@ pub fn completion(peer: &[u8; 4], count: u64, live: u64, payload: u64) -> u64 {
 }
 
 // The early opening with its last byte changed, so that its checksum is wrong.
-pub fn refusal(peer: &[u8; 4], count: u64, live: u64, payload: u64) -> u64 {
+pub(crate) fn refusal(peer: &[u8; 4], count: u64, live: u64, payload: u64) -> u64 {
     let mut opening = [0u8; 1520];
     let n = put_early(&mut opening, peer, payload);
     if 0 < n {
@@ -255,7 +255,7 @@ pub fn refusal(peer: &[u8; 4], count: u64, live: u64, payload: u64) -> u64 {
     )
 }
 
-pub fn full(peer: &[u8; 4], count: u64, payload: u64) -> u64 {
+pub(crate) fn full(peer: &[u8; 4], count: u64, payload: u64) -> u64 {
     let mut opening = [0u8; 1520];
     let n = put_early(&mut opening, peer, payload);
     take_again(
@@ -266,6 +266,6 @@ pub fn full(peer: &[u8; 4], count: u64, payload: u64) -> u64 {
     )
 }
 
-pub fn unknown(peer: &[u8; 4], count: u64, live: u64) -> u64 {
+pub(crate) fn unknown(peer: &[u8; 4], count: u64, live: u64) -> u64 {
     abandon_again(listener_with(peer, live), peer, count)
 }

@@ -4,37 +4,37 @@ use segment::write::Opening;
 use segment::write::write_opening;
 ghost use Prim.Native.Nat.{_<_};
 
-pub const OWN_PORT: u16 = 443;
+pub(crate) const OWN_PORT: u16 = 443;
 
-pub const PEER_PORT: u16 = 40000;
+pub(crate) const PEER_PORT: u16 = 40000;
 
 // The peer's initial number.
-pub const IRS: u32 = 1000;
+pub(crate) const IRS: u32 = 1000;
 
-pub const MSS: u16 = 1460;
+pub(crate) const MSS: u16 = 1460;
 
 // A byte as a number: a read of it then asks no proof that it fits.
-pub fn wide(b: u8) -> u64
+pub(crate) fn wide(b: u8) -> u64
     ensures { λ r. ⌜ r < 256 ⌝ }
 {
     b as u64
 }
 
-pub fn key() -> [u8; 16] {
+pub(crate) fn key() -> [u8; 16] {
     [0, 1, 2, 3, 4, 5, 6, 7, 8, 9, 10, 11, 12, 13, 14, 15]
 }
 
-pub fn own() -> [u8; 4] {
+pub(crate) fn own() -> [u8; 4] {
     [192, 0, 2, 2]
 }
 
 // The peer's address. That LIVE is at most 64 is known only when the program runs, so no call is compiled for this address alone.
-pub fn peer(live: u64) -> [u8; 4] {
+pub(crate) fn peer(live: u64) -> [u8; 4] {
     [192, 0, 2, (1 + live / 100 % 2) as u8]
 }
 
 // Data, as many bytes of it as the longest segment has: byte i is 7 i + 3 modulo 256.
-pub fn bytes() -> [u8; 1520] {
+pub(crate) fn bytes() -> [u8; 1520] {
     let mut b = [0u8; 1520];
     let mut i: usize = 0;
     while i < 1520 {
@@ -44,17 +44,13 @@ pub fn bytes() -> [u8; 1520] {
     b
 }
 
-// The first n bytes, or all where there are fewer.
-pub fn first(s: &[u8; 1520], n: usize) -> &[u8] {
-    let all = &s[..];
-    if all.len() < n {
-        return all;
-    }
-    &all[0..n]
+// The first n bytes of a buffer, which goes in as an array: then no caller has to prove its length.
+pub(crate) fn first(s: &[u8; 1520], n: usize) -> &[u8] {
+    text::part::first(s, n)
 }
 
 // Writes an opening of the peer's with a Fast Open option: a cookie, or none to ask for one. Answers its length.
-pub fn put_opening(
+pub(crate) fn put_opening(
     out: &mut [u8; 1520],
     peer: &[u8; 4],
     port: u16,
@@ -98,7 +94,7 @@ fn header(seq: u32, ack: u32, check: u16) -> [u8; 20] {
 }
 
 // A completion of the peer's with the right checksum: over IPv4's pseudo-header (protocol 6, length 20) and the header.
-pub fn completion(peer: &[u8; 4], seq: u32, ack: u32) -> [u8; 20] {
+pub(crate) fn completion(peer: &[u8; 4], seq: u32, ack: u32) -> [u8; 20] {
     let pseudo = add_bytes(add_bytes(26, peer), &own());
     let sum = add_bytes(pseudo, &header(seq, ack, 0));
     header(seq, ack, 65535 - sum)

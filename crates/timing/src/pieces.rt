@@ -17,7 +17,7 @@ fn leading(b: [u8; 16]) -> u64 {
 }
 
 // Blocks, each the encryption of the one before.
-pub fn block(count: u64) -> u64 {
+pub(crate) fn block(count: u64) -> u64 {
     let round_keys = expand_key(data::key());
     let mut b: [u8; 16] = [
         0,
@@ -69,7 +69,7 @@ fn last_round_key(w: &[u8; 176]) -> [u8; 16] {
 }
 
 // Keys, each the last round key of the one before.
-pub fn expand(count: u64) -> u64 {
+pub(crate) fn expand(count: u64) -> u64 {
     let mut k = data::key();
     let mut turn: u64 = 0;
     while turn < count {
@@ -92,7 +92,7 @@ fn sum_again(count: u64, bytes: &[u8]) -> u16 {
 }
 
 // One sum over the data, added again and again.
-pub fn checksum(count: u64, payload: u64) -> u64 {
+pub(crate) fn checksum(count: u64, payload: u64) -> u64 {
     let bytes = data::bytes();
     sum_again(count, data::first(&bytes, payload as usize)) as u64
 }
@@ -121,7 +121,7 @@ fn add_options(digest: u64, area: &[u8; 32]) -> u64 {
 }
 
 // An area of five options and padding, with another segment size each turn.
-pub fn options(count: u64) -> u64 {
+pub(crate) fn options(count: u64) -> u64 {
     let mut area: [u8; 32] = [
         2,
         4,
