@@ -6,7 +6,7 @@ use Prim.Native.Nat.{ℕ, _+_, _*_, _/_, _%_, _<_, _^_}
 use native.Mathlib.Omega.{arith}
 use lib.Bits.{bitXor, xor-mod, xor-shr, xor-lt, xor-zero-r}
 use lib.Dec.{T}
-use lib.ListN.{length, getD}
+use lib.ListN.{length}
 use Rattle.cipher.specs.Field.{_•_, productOf, xtime}
 use Rattle.cipher.specs.Cipher.{four, xorWord, mixByte, sBox}
 use Rattle.cipher.specs.KeyExpansion.{rotWord}

@@ -7,10 +7,11 @@ use native.Mathlib.Omega.{arith}
 use lib.Dec.{ltb, eqb}
 use lib.ListN.{length, set, replicate, length-set, length-replicate}
 use borrow.Author.Tests.{ltb-true, ltb-false, lt-ltb, le-ltb, eqb-true, eq-eqb}
-use Rattle.segment.proofs.Bools.{and-true, chosen}
-use Rattle.endpoint.specs.Lists.{sameBytes, bit, sum, tally}
-use Rattle.endpoint.proofs.Names.{same-bytes-eq, same-bytes-refl}
-use Rattle.endpoint.proofs.Sums.{sum-le, sum-zero, sum-set, sum-only, first-passes, none-passes}
+use Rattle.lists.proofs.Bools.{and-true, chosen}
+use Rattle.lists.specs.Bytes.{sameBytes}
+use Rattle.lists.specs.Lists.{bit, sum, tally}
+use Rattle.lists.proofs.SameBytes.{same-bytes-eq, same-bytes-refl}
+use Rattle.lists.proofs.Sums.{bit-most, sum-le, sum-zero, sum-set, sum-only, first-passes, none-passes}
 use Rattle.client.specs.Bans.{noBan, isBan, banPlace, isBanned, placeFor, newBan, addBan}
 use Rattle.client.specs.declared.bans.Ban.{Ban}
 
@@ -28,10 +29,6 @@ unfolding isBan
 is-ban t b port x l p a = rw (lt-ltb t (x .end) l, eq-eqb (x .port) port p, a) (same-bytes-refl b)
 
 -- a test counts once at most
-bit-most : (b : Bool) → bit b ≤ 1
-bit-most true = omega arith
-bit-most false = omega arith
-
 -- an element that is replaced adds no more than its own weight, wherever it goes
 set-most : {A : Type 0} (w : A → ℕ) (xs : List A) (i : ℕ) (y : A) → sum w (set xs i y) ≤ sum w xs + w y
 set-most w [] i y = omega arith

@@ -8,7 +8,8 @@ use lib.ListN.{length, take}
 use borrow.Author.Tests.{not-false}
 use Rattle.segment.specs.Refusal.{Checks, refusal}
 use Rattle.segment.specs.Header.{fieldsOf}
-use Rattle.segment.specs.Write.{overwrite, openingBytes}
+use Rattle.lists.specs.Bytes.{overwrite}
+use Rattle.segment.specs.Write.{openingBytes}
 use Rattle.segment.specs.declared.refusal.Refusal.{Refusal}
 use Rattle.segment.specs.declared.refusal.Check.{Check}
 use Rattle.segment.specs.declared.refusal.Check.the-variants.{Clear, Refused}

@@ -8,7 +8,7 @@ use native.Mathlib.Nat.{le-of-suc-le-suc, not-suc-le-zero, zero-lt-suc}
 use lib.Dec.{ltb, leb}
 use lib.ListN.{length, getD}
 use borrow.Author.Tests.{ltb-true, ltb-false, le-leb, leb-true}
-use Rattle.endpoint.specs.Lists.{firstIndex, every}
+use Rattle.lists.specs.Lists.{firstIndex, every}
 use Rattle.client.specs.Bans.{endsFirst}
 use Rattle.client.specs.declared.bans.Ban.{Ban}
 

@@ -7,7 +7,6 @@ pub mod Reading
 pub mod Recalling
 pub mod Storing
 pub mod Banning
-pub mod Finding
 pub mod Shifting
 pub mod Earliest
 pub mod Judging

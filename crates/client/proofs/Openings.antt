@@ -10,7 +10,7 @@ use borrow.Author.Tests.{ltb-false, not-false}
 use Rattle.segment.specs.Options.{isCookieLength}
 use Rattle.segment.specs.Write.{optionAllowed, optionBytes, canWrite, openingFields}
 use Rattle.segment.specs.declared.refusal.Check.the-variants.{Clear}
-use Rattle.segment.proofs.Bools.{chosen}
+use Rattle.lists.proofs.Bools.{chosen}
 use Rattle.segment.proofs.Cookie.{cookie-length}
 use Rattle.segment.proofs.Exchange.{allowed-request, allowed-found, opening-can, opening-length}
 use Rattle.endpoint.specs.Address.{size}

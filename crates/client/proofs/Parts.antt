@@ -9,7 +9,7 @@ use lib.ListN.{length}
 use borrow.Author.Tests.{eq-eqb, ne-eqb}
 use Rattle.segment.specs.Options.{isCookieLength}
 use Rattle.segment.specs.declared.options.Mss.{Mss}
-use Rattle.segment.proofs.Bools.{chosen}
+use Rattle.lists.proofs.Bools.{chosen}
 use Rattle.segment.proofs.Cookie.{cookie-length}
 use Rattle.endpoint.specs.declared.address.Family.{Family}
 use Rattle.endpoint.specs.declared.address.Family.the-variants.{V4, V6}

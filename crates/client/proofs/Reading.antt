@@ -13,11 +13,12 @@ use Rattle.segment.specs.declared.refusal.Check.the-variants.{Clear}
 use Rattle.segment.specs.declared.header.Header.{Header}
 use Rattle.segment.specs.declared.options.Mss.{Mss}
 use Rattle.segment.specs.declared.options.Mss.the-variants.{Given}
-use Rattle.segment.proofs.Bools.{and-true}
+use Rattle.lists.proofs.Bools.{and-true}
 use Rattle.segment.proofs.Cookie.{cookie-length}
 use Rattle.endpoint.specs.Address.{block}
 use Rattle.endpoint.proofs.Clear.{Passed, every-check}
-use Rattle.endpoint.proofs.Names.{same-bytes-refl, short}
+use Rattle.lists.proofs.SameBytes.{same-bytes-refl}
+use Rattle.endpoint.proofs.Names.{short}
 use Rattle.client.specs.Cache.{isFor, entryFor, cookieOf}
 use Rattle.client.specs.Call.{Call, answer}
 use Rattle.client.specs.Refusals.{isMss, isBetween, checks, judged}

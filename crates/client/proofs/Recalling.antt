@@ -10,9 +10,10 @@ use lib.Seq.{take-take}
 use Rattle.segment.specs.Options.{firstMss}
 use Rattle.segment.specs.declared.options.Mss.{Mss}
 use Rattle.segment.specs.declared.options.Mss.the-variants.{NotGiven, Given}
-use Rattle.segment.proofs.Bools.{or-false, chosen}
-use Rattle.endpoint.specs.Lists.{sameBytes, dropFirst}
-use Rattle.endpoint.proofs.Names.{same-bytes-eq, same-bytes-refl}
+use Rattle.lists.proofs.Bools.{or-false, chosen}
+use Rattle.lists.specs.Bytes.{sameBytes}
+use Rattle.lists.specs.Lists.{dropFirst}
+use Rattle.lists.proofs.SameBytes.{same-bytes-eq, same-bytes-refl}
 use Rattle.client.specs.Step.{isGiven}
 use Rattle.client.specs.History.{Store, member, without, distinct, recent, lastCookie, lastMss, recalled, Once}
 

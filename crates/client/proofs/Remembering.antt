@@ -14,12 +14,12 @@ use Rattle.segment.specs.declared.refusal.Check.the-variants.{Clear, Refused}
 use Rattle.segment.specs.declared.options.Mss.{Mss}
 use Rattle.segment.specs.declared.options.Mss.the-variants.{NotGiven, Given}
 use Rattle.segment.proofs.Numbers.{positive}
-use Rattle.segment.proofs.Bools.{or-false, chosen}
+use Rattle.lists.proofs.Bools.{or-false, chosen}
 use Rattle.endpoint.specs.Address.{size, block}
 use Rattle.endpoint.specs.Checks.{isUntimely}
 use Rattle.endpoint.specs.declared.address.Family.{Family}
 use Rattle.endpoint.proofs.Clear.{Passed, every-check}
-use Rattle.endpoint.proofs.Sums.{All}
+use Rattle.lists.proofs.Sums.{All}
 use Rattle.client.specs.Cache.{entryFor, learnedFrom, remembered}
 use Rattle.client.specs.Call.{Call, connect, answer, failed, numberOfEvent}
 use Rattle.client.specs.Refusals.{checks, judged}

@@ -7,7 +7,7 @@ use native.Mathlib.Omega.{arith}
 use native.Mathlib.Numerals.{add-one}
 use lib.ListN.{length, take, drop, getD, set, length-append, length-drop, drop-of-length-le}
 use lib.Seq.{take-all, take-suc, drop-cons, set-at, getD-at, length-take-le}
-use Rattle.endpoint.specs.Lists.{firstIndex, dropFirst}
+use Rattle.lists.specs.Lists.{firstIndex, dropFirst}
 
 module _ {A : Type 0} where
   -- a new element in front, and the first i elements one place on

@@ -10,14 +10,15 @@ use Rattle.segment.specs.Header.{optionArea}
 use Rattle.segment.specs.Options.{isCookieLength, firstMss, optionsOf, cookieBytes}
 use Rattle.segment.specs.declared.options.FastOpen.{FastOpen}
 use Rattle.segment.specs.declared.options.FastOpen.the-variants.{Absent, Request, Cookie}
-use Rattle.segment.proofs.Bools.{chosen}
+use Rattle.lists.proofs.Bools.{chosen}
 use Rattle.segment.proofs.Cookie.{AllInside, cookie-length-back, cookie-bytes, inside-segment}
-use Rattle.endpoint.specs.Lists.{sameBytes, firstIndex, dropFirst}
+use Rattle.lists.specs.Bytes.{sameBytes}
+use Rattle.lists.specs.Lists.{firstIndex, dropFirst}
 use Rattle.endpoint.specs.Address.{size, block}
 use Rattle.endpoint.specs.declared.address.Family.{Family}
 use Rattle.endpoint.proofs.Names.{short, same-block}
 use Rattle.endpoint.proofs.Blocks.{copied-block}
-use Rattle.endpoint.proofs.Sums.{All}
+use Rattle.lists.proofs.Sums.{All}
 use Rattle.client.specs.Cache.{unusedEntry, isFor, entryFor, cookieOf, learnedFrom, remembered}
 use Rattle.client.specs.Step.{cookieIn}
 use Rattle.client.specs.History.{Store, entryAs, storedIn}

@@ -5,7 +5,7 @@ use mathlib.Core.List.{List}
 use mathlib.Core.Bool.{Bool, cond, not, _&&_}
 use lib.Dec.{ltb, leb}
 use lib.ListN.{replicate, set}
-use Rattle.endpoint.specs.Lists.{firstIndex, every}
+use Rattle.lists.specs.Lists.{firstIndex, every}
 use Rattle.endpoint.specs.Address.{sameName}
 use Rattle.client.specs.declared.bans.Ban.{Ban}
 use Rattle.client.specs.declared.state.Memory.{Memory}

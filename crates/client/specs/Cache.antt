@@ -8,7 +8,8 @@ use lib.ListN.{length, take, getD, replicate}
 use Rattle.segment.specs.Options.{isCookieLength, firstMss}
 use Rattle.segment.specs.declared.options.Mss.{Mss}
 use Rattle.segment.specs.declared.options.Mss.the-variants.{NotGiven, Given}
-use Rattle.endpoint.specs.Lists.{sameBytes, firstIndex, dropFirst}
+use Rattle.lists.specs.Bytes.{sameBytes}
+use Rattle.lists.specs.Lists.{firstIndex, dropFirst}
 use Rattle.endpoint.specs.Address.{block}
 use Rattle.endpoint.specs.declared.address.Family.{Family}
 use Rattle.endpoint.specs.declared.address.Family.the-variants.{V4, V6}

@@ -8,7 +8,8 @@ use lib.Dec.{eqb}
 use lib.ListN.{length, take}
 use Rattle.segment.specs.declared.options.Mss.{Mss}
 use Rattle.segment.specs.declared.options.Mss.the-variants.{NotGiven, Given}
-use Rattle.endpoint.specs.Lists.{sameBytes, tally}
+use Rattle.lists.specs.Bytes.{sameBytes}
+use Rattle.lists.specs.Lists.{tally}
 use Rattle.endpoint.specs.Address.{size, isAddress}
 use Rattle.endpoint.specs.declared.address.Family.{Family}
 use Rattle.client.specs.Cache.{cookieOf}

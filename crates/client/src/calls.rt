@@ -34,7 +34,7 @@ use segment::write::write_opening;
 ghost use mathlib.Core.Path.{_≡_};
 ghost use Prim.Native.Nat.{_≤_, _^_};
 ghost use lib.ListN.{length};
-ghost use Rattle.segment.specs.Write.{overwrite};
+ghost use Rattle.lists.specs.Bytes.{overwrite};
 ghost use Rattle.client.specs.Cache.{withCache};
 ghost use Rattle.client.specs.Bans.{withBans};
 ghost use Rattle.client.specs.Call.{Call};

@@ -11,7 +11,7 @@ use Rattle.segment.specs.declared.refusal.Refusal.{Refusal}
 use Rattle.segment.specs.declared.refusal.Refusal.the-variants.{Address, Time, NotStarted}
 use Rattle.segment.specs.declared.refusal.Check.{Check}
 use Rattle.segment.specs.declared.refusal.Check.the-variants.{Clear, Refused}
-use Rattle.segment.proofs.Bools.{or-false}
+use Rattle.lists.proofs.Bools.{or-false}
 use Rattle.endpoint.specs.Address.{isAddress}
 use Rattle.endpoint.specs.Checks.{isUntimely, timely, addressed}
 use Rattle.endpoint.specs.declared.address.Family.{Family}

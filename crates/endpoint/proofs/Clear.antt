@@ -7,9 +7,9 @@ use Rattle.segment.specs.Refusal.{numberOf, order, Checks, same, applies, refus
 use Rattle.segment.specs.declared.refusal.Refusal.{Refusal}
 use Rattle.segment.specs.declared.refusal.Refusal.the-variants.{Format, Address, Checksum, Port, Time, Flags, NameInUse, TableFull, NoConnection, Sequence, Output, Range, NotStarted}
 use Rattle.segment.specs.declared.refusal.Check.the-variants.{Clear}
-use Rattle.segment.proofs.Bools.{or-false}
+use Rattle.lists.proofs.Bools.{or-false}
 use Rattle.segment.proofs.Numbers.{None, none-applies}
-use Rattle.endpoint.proofs.Sums.{All}
+use Rattle.lists.proofs.Sums.{All}
 
 -- every refusal has a place in the order
 ordered : (cs : Checks) → None order cs → (r : Refusal) → applies cs r ≡ false

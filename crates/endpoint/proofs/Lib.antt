@@ -2,7 +2,5 @@
 -- and client.
 pub mod Names
 pub mod Blocks
-pub mod Sums
-pub mod Comparing
 pub mod Clear
 pub mod Chain

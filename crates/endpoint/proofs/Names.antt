@@ -1,36 +1,16 @@
 -- Names of connections, and the blocks that their addresses are kept as. Assumes nothing.
 use Prim.Native.Nat.{ℕ, _-_}
 use mathlib.Core.Path.{_≡_, refl, sym, ap, ap₂, _∙_, subst}
-use mathlib.Core.Bool.{Bool, true, false, _&&_, false≢true, and-eq-true-iff}
-use mathlib.Core.List.{List, [], _∷_}
+use mathlib.Core.Bool.{true, _&&_, and-eq-true-iff}
+use mathlib.Core.List.{List}
 use borrow.Author.Tests.{eqb-true, eq-eqb}
 use lib.Dec.{eqb}
 use lib.ListN.{length, take, replicate}
 use lib.Seq.{take-at}
-use Rattle.endpoint.specs.Lists.{sameBytes}
+use Rattle.lists.specs.Bytes.{sameBytes}
+use Rattle.lists.proofs.Bools.{one-test}
+use Rattle.lists.proofs.SameBytes.{same-bytes-eq, same-bytes-refl}
 use Rattle.endpoint.specs.Address.{Peer, samePeer, block}
-
--- two tests that pass together are one
-pub one-test : (a b : Bool) → (a ≡ true → b ≡ true) → (b ≡ true → a ≡ true) → a ≡ b
-one-test true b f g = sym (f refl)
-one-test false true f g = g refl
-one-test false false f g = refl
-
--- Bytes
-
-pub same-bytes-eq : (xs ys : List ℕ) → sameBytes xs ys ≡ true → xs ≡ ys
-unfolding sameBytes
-same-bytes-eq [] [] e = refl
-same-bytes-eq [] (y ∷ ys) e = absurd (false≢true e)
-same-bytes-eq (x ∷ xs) [] e = absurd (false≢true e)
-same-bytes-eq (x ∷ xs) (y ∷ ys) e =
-    let both = and-eq-true-iff (eqb x y) (sameBytes xs ys) .0 e in
-    ap₂ _∷_ (eqb-true x y (both .0)) (same-bytes-eq xs ys (both .1))
-
-pub same-bytes-refl : (xs : List ℕ) → sameBytes xs xs ≡ true
-unfolding sameBytes
-same-bytes-refl [] = refl
-same-bytes-refl (x ∷ xs) = ap₂ _&&_ (eq-eqb x x refl) (same-bytes-refl xs)
 
 -- Names
 

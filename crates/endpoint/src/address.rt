@@ -1,7 +1,7 @@
 // Addresses of both families, the blocks of 16 bytes that they are kept as, and when two are the same.
 ghost use mathlib.Core.Path.{_≡_};
 ghost use lib.ListN.{take};
-ghost use Rattle.endpoint.specs.Lists.{sameBytes};
+ghost use Rattle.lists.specs.Bytes.{sameBytes};
 ghost use Rattle.endpoint.specs.Address.{size, isSize, familyOf, isAddress, block, sameName};
 
 // The family of addresses that is fixed at the start.

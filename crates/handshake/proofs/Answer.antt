@@ -26,17 +26,17 @@ use Rattle.endpoint.specs.Checks.{isUntimely}
 use Rattle.endpoint.proofs.Blocks.{one-family}
 use Rattle.endpoint.proofs.Clear.{every-check}
 use Rattle.endpoint.proofs.Chain.{andThen}
-use Rattle.listener.specs.Table.{acceptedWith}
-use Rattle.listener.specs.Call.{acceptedOf, sender}
-use Rattle.listener.specs.View.{view}
-use Rattle.listener.specs.Refusals.{wireChecks}
-use Rattle.listener.specs.Step.{accepts, isEarly, isFresh, newEvent, openingEvent, segmentEvent, answerFrom, answerTo, segmentOutput}
-use Rattle.listener.specs.declared.state.View.{View}
-use Rattle.listener.specs.declared.state.Listener.{Listener}
-use Rattle.listener.specs.declared.answer.Outcome as listener-answer
-use Rattle.listener.proofs.Cookies.{cookie-eight, cookie-bytes}
-use Rattle.listener.proofs.Judging.{judged-segment, output-done}
-use Rattle.listener.proofs.Openings.{slotFor, step-new}
+use Rattle.protocol.specs.Table.{acceptedWith}
+use Rattle.protocol.specs.Call.{acceptedOf, sender}
+use Rattle.protocol.specs.View.{view}
+use Rattle.protocol.specs.Refusals.{wireChecks}
+use Rattle.protocol.specs.Step.{accepts, isEarly, isFresh, newEvent, openingEvent, segmentEvent, answerFrom, answerTo, segmentOutput}
+use Rattle.protocol.specs.declared.state.View.{View}
+use Rattle.protocol.specs.declared.state.Listener.{Listener}
+use Rattle.protocol.specs.declared.answer.Outcome as listener-answer
+use Rattle.protocol.proofs.Cookies.{cookie-eight, cookie-bytes}
+use Rattle.protocol.proofs.Judging.{judged-segment, output-done}
+use Rattle.protocol.proofs.Openings.{slotFor, step-new}
 use Rattle.client.specs.Refusals.{judged, countIn}
 use Rattle.client.specs.Step.{cookieIn, storedFor}
 use Rattle.client.specs.declared.answer.Event.the-variants.{Answered}

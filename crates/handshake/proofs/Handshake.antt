@@ -7,16 +7,16 @@ use native.Mathlib.Omega.{arith}
 use lib.ListN.{length}
 use lib.Seq.{take-take}
 use Rattle.endpoint.specs.Address.{block}
-use Rattle.listener.specs.Cookie.{request, carriedBy}
-use Rattle.listener.specs.Call.{acceptedOf}
-use Rattle.listener.specs.View.{viewOf}
-use Rattle.listener.specs.Step as listener
-use Rattle.listener.specs.declared.state.Listener.{Listener}
-use Rattle.listener.specs.declared.answer.Event.{Event}
-use Rattle.listener.specs.declared.answer.Event.the-variants as events
-use Rattle.listener.specs.declared.answer.Outcome.{Outcome}
-use Rattle.listener.proofs.Openings.{is-early, request-plain, request-fresh, new-clear, step-new}
-use Rattle.listener.proofs.Parts as parts
+use Rattle.protocol.specs.Cookie.{request, carriedBy}
+use Rattle.protocol.specs.Call.{acceptedOf}
+use Rattle.protocol.specs.View.{viewOf}
+use Rattle.protocol.specs.Step as listener
+use Rattle.protocol.specs.declared.state.Listener.{Listener}
+use Rattle.protocol.specs.declared.answer.Event.{Event}
+use Rattle.protocol.specs.declared.answer.Event.the-variants as events
+use Rattle.protocol.specs.declared.answer.Outcome.{Outcome}
+use Rattle.protocol.proofs.Openings.{is-early, request-plain, request-fresh, new-clear, step-new}
+use Rattle.protocol.proofs.Starting as starting
 use Rattle.client.specs.declared.answer.Event.the-variants.{Answered}
 use Rattle.client.specs.declared.state.Memory.{Memory}
 use Rattle.handshake.specs.Handshake.{Asked, opening, sent, Arrival, arriving, Ends, carriedWith, stored, Issued, Taken, Later, Admits, CookieRequest, upToRoom, EarlyData, Handshake}
@@ -71,7 +71,7 @@ module _ (m : Memory) (l : Listener) (a : Asked) (e : Ends m l a) where
         record {
           event = early-event i;
           part =
-              sym (parts.taken (opening m a) (listener.step l (arriving m a h) .event) (sym (opening-read-by-listener m l a e .content)) count
+              sym (starting.taken (opening m a) (listener.step l (arriving m a h) .event) (sym (opening-read-by-listener m l a e .content)) count
               (omega (arith, ap length (opening-read-by-listener m l a e .content), payload-length m l a e)))
               ∙ take-take (upToRoom m l a) (sent m a) (a .offered) (omega arith);
           answered = answer-read-by-client m l a e h taken m′ t g .event ∙ ap Answered (sym count);

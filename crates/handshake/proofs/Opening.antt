@@ -18,7 +18,7 @@ use Rattle.segment.specs.declared.header.Kind.{Kind}
 use Rattle.segment.specs.declared.header.Kind.the-variants.{Syn}
 use Rattle.segment.specs.declared.options.Options.{Options}
 use Rattle.segment.specs.declared.write.Opening.{Opening}
-use Rattle.segment.proofs.ByteLists.{bytes-take}
+use Rattle.lists.proofs.ByteLists.{bytes-take}
 use Rattle.segment.proofs.Formed.{well-shaped}
 use Rattle.segment.proofs.Agreement.{ReadBack, foundFor}
 use Rattle.segment.proofs.Exchange.{opening-fits, opening-read, opening-kind}
@@ -27,12 +27,12 @@ use Rattle.endpoint.specs.Checks.{isUntimely}
 use Rattle.endpoint.proofs.Blocks.{own-part}
 use Rattle.endpoint.proofs.Chain as chains
 use Rattle.endpoint.proofs.Clear.{Passed}
-use Rattle.listener.specs.Cookie.{cookie, found, cookieUnder, carriedBy, right}
-use Rattle.listener.specs.View.{ownAddress, viewOf}
-use Rattle.listener.specs.Refusals.{wireChecks, kindChecks, judged}
-use Rattle.listener.specs.declared.state.Listener.{Listener}
-use Rattle.listener.proofs.Judging.{judged-segment}
-use Rattle.listener.proofs.Cookies.{cookie-eight, issued-right, right-now, right-before, carried-found}
+use Rattle.protocol.specs.Cookie.{cookie, found, cookieUnder, carriedBy, right}
+use Rattle.protocol.specs.View.{ownAddress, viewOf}
+use Rattle.protocol.specs.Refusals.{wireChecks, kindChecks, judged}
+use Rattle.protocol.specs.declared.state.Listener.{Listener}
+use Rattle.protocol.proofs.Judging.{judged-segment}
+use Rattle.protocol.proofs.Cookies.{cookie-eight, issued-right, right-now, right-before, carried-found}
 use Rattle.client.specs.Cache.{cookieLength}
 use Rattle.client.specs.Call.{countOf}
 use Rattle.client.specs.Refusals.{checks}

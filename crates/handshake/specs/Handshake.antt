@@ -5,7 +5,7 @@ use mathlib.Core.Path.{_≡_}
 use mathlib.Core.List.{List, [], _∷_}
 use mathlib.Core.Bool.{Bool, true, false, cond}
 use lib.ListN.{length, take}
-use Rattle.segment.specs.Bytes.{Bytes}
+use Rattle.lists.specs.Bytes.{Bytes}
 use Rattle.segment.specs.Refusal.{refusal}
 use Rattle.segment.specs.Header.{malformed, fieldsOf, payloadOf, kindOf}
 use Rattle.segment.specs.Checksum.{checksumRight}
@@ -15,18 +15,18 @@ use Rattle.segment.specs.declared.header.Kind.the-variants.{Syn}
 use Rattle.segment.specs.declared.options.Mss.the-variants.{Given}
 use Rattle.endpoint.specs.Address.{block}
 use Rattle.endpoint.specs.Checks.{isUntimely}
-use Rattle.listener.specs.Cookie.{Carried, nothing, request, cookie, cookieUnder, carriedBy, right}
-use Rattle.listener.specs.Table.{freePlace, pendingAt}
-use Rattle.listener.specs.Call.{segment, acceptedOf, acceptedPart}
-use Rattle.listener.specs.Call as listener-calls
-use Rattle.listener.specs.View.{known, ownAddress, viewOf}
-use Rattle.listener.specs.Refusals.{kindChecks}
-use Rattle.listener.specs.Refusals as listener-checks
-use Rattle.listener.specs.Step.{isFresh}
-use Rattle.listener.specs.Step as listener
-use Rattle.listener.specs.declared.state.Keys.{Keys}
-use Rattle.listener.specs.declared.state.Listener.{Listener}
-use Rattle.listener.specs.declared.answer.Event.the-variants as events
+use Rattle.protocol.specs.Cookie.{Carried, nothing, request, cookie, cookieUnder, carriedBy, right}
+use Rattle.protocol.specs.Table.{freePlace, pendingAt}
+use Rattle.protocol.specs.Call.{segment, acceptedOf, acceptedPart}
+use Rattle.protocol.specs.Call as listener-calls
+use Rattle.protocol.specs.View.{known, ownAddress, viewOf}
+use Rattle.protocol.specs.Refusals.{kindChecks}
+use Rattle.protocol.specs.Refusals as listener-checks
+use Rattle.protocol.specs.Step.{isFresh}
+use Rattle.protocol.specs.Step as listener
+use Rattle.protocol.specs.declared.state.Keys.{Keys}
+use Rattle.protocol.specs.declared.state.Listener.{Listener}
+use Rattle.protocol.specs.declared.answer.Event.the-variants as events
 use Rattle.client.specs.Cache.{cookieOf}
 use Rattle.client.specs.Call.{connect, answer, countOf}
 use Rattle.client.specs.Call as client-calls

@@ -3,37 +3,15 @@
 //
 // A listener is large, and a function that takes one and indexes its slots copies it. So each call scans the table itself, in the copy that becomes the
 // next listener, which it makes only after its first checks; and each of its ends is a `return`.
-use crate::action::act;
-use crate::answer::Event;
-use crate::answer::Outcome;
-use crate::answer::Started;
-use crate::answer::is_answered;
-use crate::checks::Received;
-use crate::checks::check_kind;
-use crate::checks::check_output;
-use crate::checks::is_in_range;
-use crate::checks::receive;
-use crate::state::Home;
-use crate::state::InForce;
-use crate::state::Keys;
-use crate::state::Listener;
-use crate::state::Settings;
-use crate::state::free_slot;
-use crate::state::view_of;
-use crate::table::Scan;
-use crate::table::Slot;
-use crate::table::Status;
-use crate::table::accepted_with;
-use crate::table::count_if;
-use crate::table::is_established;
-use crate::table::is_pending;
-use crate::table::is_waiting;
-use crate::table::look;
-use crate::table::nothing_seen;
-use crate::table::slot_found;
-use crate::table::with_status;
-use crate::table::within;
 use cipher::expand_key;
+use decisions::action::act;
+use decisions::action::is_answered;
+use decisions::checks::Received;
+use decisions::checks::check_kind;
+use decisions::checks::check_output;
+use decisions::checks::is_in_range;
+use decisions::checks::receive;
+use decisions::view::view_of;
 use endpoint::address::Family;
 use endpoint::address::block_of;
 use endpoint::address::family_of;
@@ -41,21 +19,44 @@ use endpoint::address::is_size;
 use endpoint::address::size_of;
 use endpoint::checks::check_name;
 use endpoint::checks::check_time;
+use protocol::answer::Event;
+use protocol::answer::Outcome;
+use protocol::answer::Started;
+use protocol::state::Home;
+use protocol::state::InForce;
+use protocol::state::Keys;
+use protocol::state::Listener;
+use protocol::state::Settings;
+use protocol::table::Scan;
+use protocol::table::Slot;
+use protocol::table::Status;
 use segment::header::kind_of;
 use segment::refusal::Check;
 use segment::refusal::Refusal;
 use segment::write::Answer;
 use segment::write::write_answer;
+use table::scan::count_if;
+use table::scan::look;
+use table::scan::nothing_seen;
+use table::scan::slot_found;
+use table::scan::within;
+use table::slot::accepted_with;
+use table::slot::free_slot;
+use table::slot::is_established;
+use table::slot::is_pending;
+use table::slot::is_waiting;
+use table::slot::with_status;
 ghost use mathlib.Core.Path.{_≡_};
 ghost use Prim.Native.Nat.{_≤_};
 ghost use lib.ListN.{length};
-ghost use Rattle.segment.specs.Write.{answerBytes, overwrite};
-ghost use Rattle.listener.specs.Table.{pendingAt};
-ghost use Rattle.listener.specs.Scan.{placeOf};
-ghost use Rattle.listener.specs.View.{ownAddress};
-ghost use Rattle.listener.specs.Call.{Call};
-ghost use Rattle.listener.specs.Refusals.{isReleasable, releaseOf};
-ghost use Rattle.listener.specs.Step.{blank, freshListener, neverStarted, startOf, answerFrom, step, outputOf, pendingNumber};
+ghost use Rattle.segment.specs.Write.{answerBytes};
+ghost use Rattle.lists.specs.Bytes.{overwrite};
+ghost use Rattle.protocol.specs.Table.{pendingAt};
+ghost use Rattle.listener.specs.Place.{placeOf};
+ghost use Rattle.protocol.specs.View.{ownAddress};
+ghost use Rattle.protocol.specs.Call.{Call};
+ghost use Rattle.protocol.specs.Refusals.{isReleasable, releaseOf};
+ghost use Rattle.protocol.specs.Step.{blank, freshListener, neverStarted, startOf, answerFrom, step, outputOf, pendingNumber};
 
 // A refused call changes nothing.
 fn refused(l: Listener, why: Refusal) -> Outcome
@@ -249,7 +250,8 @@ pub fn segment(l: Listener, time: u64, src: &[u8], seg: &[u8], iss: u32, out: &m
                     return refused(next, why);
                 }
                 Check::Clear => {
-                    let action = act(v, time, b, h, iss, seg, kind);
+                    let end = time + (settings.hold as u64);
+                    let action = act(v, end, b, h, iss, seg, kind);
                     let event = action.event;
                     let changed = action.slot;
                     let cookie = action.cookie;

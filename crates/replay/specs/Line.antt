@@ -7,15 +7,15 @@ use lib.ListN.{length, take}
 use Rattle.segment.specs.declared.refusal.Check.{Check}
 use Rattle.segment.specs.declared.refusal.Check.the-variants.{Clear}
 use Rattle.segment.specs.declared.refusal.Check.the-variants.{Refused as CheckRefused}
-use Rattle.listener.specs.declared.answer.Event.{Event}
-use Rattle.listener.specs.declared.answer.Event.the-variants.{Refused, Done}
-use Rattle.listener.specs.Call.{numberOfEvent, acceptedOf, SegmentKind, opening, reset, completion, none, kindOfEvent, Verdict, early, plain, repeat, unjudged, verdictOf}
+use Rattle.protocol.specs.declared.answer.Event.{Event}
+use Rattle.protocol.specs.declared.answer.Event.the-variants.{Refused, Done}
+use Rattle.protocol.specs.Call.{numberOfEvent, acceptedOf, SegmentKind, opening, reset, completion, none, kindOfEvent, Verdict, early, plain, repeat, unjudged, verdictOf}
 use Rattle.text.specs.Number.{decimal}
 use Rattle.text.specs.ByteString.{hexWord}
 use Rattle.text.specs.Output.{isKept}
 use Rattle.text.specs.Put.{fields, restWord}
-use Rattle.listener.specs.declared.state.Listener.{Listener}
-use Rattle.listener.specs.Step.{pendingNumber}
+use Rattle.protocol.specs.declared.state.Listener.{Listener}
+use Rattle.protocol.specs.Step.{pendingNumber}
 
 -- `opening`, `reset`, `completion` or `-`
 abbrev pub kindWord : SegmentKind → List ℕ

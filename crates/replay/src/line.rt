@@ -1,9 +1,9 @@
 // The line that a call's answer prints.
-use listener::answer::Event;
 use listener::answer::accepted_count;
 use listener::answer::event_number;
 use listener::calls::pending;
-use listener::state::Listener;
+use protocol::answer::Event;
+use protocol::state::Listener;
 use segment::refusal::Check;
 use text::output::is_kept;
 use text::part::first;
@@ -14,7 +14,7 @@ use text::put::put_rest;
 ghost use mathlib.Core.Path.{_≡_};
 ghost use mathlib.Core.List.{_++_};
 ghost use lib.ListN.{length};
-ghost use Rattle.listener.specs.Call.{kindOfEvent, verdictOf};
+ghost use Rattle.protocol.specs.Call.{kindOfEvent, verdictOf};
 ghost use Rattle.text.specs.Put.{placeAfter, laid, field};
 ghost use Rattle.replay.specs.Line.{kindWord, verdictWord, answerLine, outcomeLine, eventOf};
 

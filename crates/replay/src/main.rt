@@ -6,7 +6,7 @@ mod play;
 use crate::play::play_line;
 use libc::STDIN_FILENO;
 use listener::calls::never_started;
-use listener::state::Listener;
+use protocol::state::Listener;
 use text::line::LONGEST;
 use text::line::gather;
 use text::part::first;

@@ -8,7 +8,8 @@ use lib.ListN.{length, drop, replicate, length-append}
 use lib.Seq.{take-at, drop-at, drop-drop}
 use lib.Dec.{eqb}
 use borrow.Author.Tests.{le-leb, le-ltb, ne-eqb}
-use Rattle.segment.specs.Bytes.{Bytes, byteAt, be16, be32, word, long}
+use Rattle.lists.specs.Bytes.{Bytes}
+use Rattle.segment.specs.Bytes.{byteAt, be16, be32, word, long}
 use Rattle.segment.specs.Header.{SYN, has, malformed, offsetOf, headerLength, fieldsOf, shapeOf, optionArea, payloadOf}
 use Rattle.segment.specs.Options.{nothing, mssOption, cookieAt, fastOpenOption, withOption, readFrom, readOptions, optionsOf, cookieBytes}
 use Rattle.segment.specs.Checksum.{onesSum, complement, pseudoHeader, segmentSum, checksumRight}
@@ -22,7 +23,7 @@ use Rattle.segment.specs.declared.options.Options.{Options}
 use Rattle.segment.specs.declared.write.Outgoing.{Outgoing}
 use Rattle.segment.proofs.Reading.{readAt, one-step}
 use Rattle.segment.proofs.Folding.{sum-with-complement}
-use Rattle.segment.proofs.ByteLists.{bytes-append}
+use Rattle.lists.proofs.ByteLists.{bytes-append}
 use Rattle.segment.proofs.Family.{family, pseudo-even, pseudo-bytes}
 use Rattle.segment.proofs.Writes.{options-plain, options-fast}
 use Rattle.segment.proofs.Written.{Writable, writable, allowed-cookie, options-most, with-length}

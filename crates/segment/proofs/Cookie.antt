@@ -14,7 +14,7 @@ use Rattle.segment.specs.declared.options.FastOpen.{FastOpen}
 use Rattle.segment.specs.declared.options.FastOpen.the-variants.{Absent, Request, Cookie}
 use Rattle.segment.specs.declared.options.Options.{Options}
 use Rattle.segment.specs.Options.{isCookieLength, cookieAt, fastOpenOption, firstFastOpen, withOption, readFrom, readOptions, ifSyn, optionsOf, cookieBytes}
-use Rattle.segment.proofs.Bools.{and-true, chosen}
+use Rattle.lists.proofs.Bools.{and-true, chosen}
 
 -- 4 to 16 bytes, an even number
 pub record CookieLength (n : ℕ) : Type 0 where

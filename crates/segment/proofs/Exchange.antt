@@ -6,12 +6,12 @@ use mathlib.Core.List.{List, []}
 use native.Mathlib.Omega.{arith}
 use lib.ListN.{length}
 use borrow.Author.Tests.{le-leb, ne-eqb}
-use Rattle.segment.specs.Bytes.{Bytes}
+use Rattle.lists.specs.Bytes.{Bytes}
 use Rattle.segment.specs.Header.{SYN, ACK, has, kindOf, synAck}
 use Rattle.segment.specs.Options.{isCookieLength}
 use Rattle.segment.specs.Checksum.{oneFamily}
 use Rattle.segment.specs.Sequence.{nextAfter, difference, acknowledged}
-use Rattle.segment.specs.Write.{optionAllowed, optionBytes, optionsFor, lengthFor, canWrite, written, answerFields, answerBytes, openingFields, openingBytes}
+use Rattle.segment.specs.Write.{answerLength, optionAllowed, optionBytes, optionsFor, lengthFor, canWrite, written, answerFields, answerBytes, openingFields, openingBytes}
 use Rattle.segment.specs.declared.header.Kind.the-variants.{Syn}
 use Rattle.segment.specs.declared.write.Answer.{Answer}
 use Rattle.segment.specs.declared.write.Opening.{Opening}
@@ -46,11 +46,6 @@ pub allowed-eight : (fast : Bool) (n : ℕ) → n ≡ 8 → optionAllowed fast n
 unfolding optionAllowed isCookieLength
 allowed-eight false n e = refl
 allowed-eight true n e = rw e
-
--- an answer has 24 bytes without a cookie and 36 with a fresh one
-abbrev pub answerLength : Bool → ℕ
-answerLength false = 24
-answerLength true = 36
 
 answer-length : (a : Answer) (cookie : List ℕ) → length cookie ≡ 8 → lengthFor (answerFields a) cookie [] ≡ answerLength (a .fresh)
 answer-length a cookie h = go (a .fresh)

@@ -7,11 +7,11 @@ use native.Mathlib.Omega.{arith}
 use lib.ListN.{length, length-append}
 use lib.Dec.{eqb}
 use borrow.Author.Tests.{eqb-true}
-use Rattle.segment.specs.Bytes.{Bytes}
+use Rattle.lists.specs.Bytes.{Bytes}
 use Rattle.segment.specs.Checksum.{onesSum, oneFamily, pseudoTail, pseudoHeader, segmentSum, checksumRight}
-use Rattle.segment.proofs.Bools.{and-true}
+use Rattle.lists.proofs.Bools.{and-true}
 use Rattle.segment.proofs.Sums.{sum-append}
-use Rattle.segment.proofs.ByteLists.{bytes-append}
+use Rattle.lists.proofs.ByteLists.{bytes-append}
 
 -- an address has 4 or 16 bytes, so an even number, and the two have as many
 pub record Family (src dst : List ℕ) : Type 0 where

@@ -1,14 +1,15 @@
 -- The value of a sum whose carries are put off, and a checksum that is right by its making. Assumes nothing.
-use Prim.Native.Nat.{ℕ, _+_, _-_, _*_, _/_, _%_, _^_, _<_}
+use Prim.Native.Nat.{ℕ, _+_, _-_, _/_, _%_, _^_, _<_}
 use mathlib.Core.Path.{_≡_, ap, sym, _∙_}
 use mathlib.Core.List.{List, [], _∷_, _++_}
 use native.Mathlib.Nat.{add-zero, add-assoc}
 use native.Mathlib.Omega.{arith}
 use lib.ListN.{length}
-use Rattle.segment.specs.Bytes.{Bytes, be16, word}
+use Rattle.lists.specs.Bytes.{Bytes}
+use Rattle.segment.specs.Bytes.{be16, word}
 use Rattle.segment.specs.Checksum.{onesAdd, onesSum, complement}
 use Rattle.segment.specs.Totals.{total, folded}
-use Rattle.segment.proofs.ByteLists.{bytes-append}
+use Rattle.lists.proofs.ByteLists.{bytes-append}
 
 fold16 : (x t : ℕ) → folded (x % 65536 + x / 65536 + t) ≡ folded (x + t)
 unfolding folded

@@ -13,7 +13,7 @@ use Rattle.segment.specs.Header.{malformed, offsetOf, headerLength, fiel
 use Rattle.segment.specs.Refusal.{answered}
 use Rattle.segment.specs.declared.header.Header.{Header}
 use Rattle.segment.specs.declared.header.Shape.the-variants.{Malformed, WellFormed}
-use Rattle.segment.proofs.Bools.{or-false}
+use Rattle.lists.proofs.Bools.{or-false}
 
 -- none of the four reasons for refusal 1
 pub record Formed (s : List ℕ) : Type 0 where

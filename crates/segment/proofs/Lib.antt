@@ -5,8 +5,6 @@ pub mod Cookie
 pub mod Exchange
 pub mod Numbers
 pub mod Sixteen
-pub mod ByteLists
-pub mod Bools
 pub mod Folding
 pub mod Family
 pub mod Agreement

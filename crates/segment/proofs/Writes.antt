@@ -2,35 +2,17 @@
 use Prim.Native.Nat.{ℕ, zero, suc, _+_, _-_, _%_, _≤_, _<_}
 use mathlib.Core.Path.{_≡_, refl, ap, sym, _∙_, subst}
 use mathlib.Core.Bool.{Bool, true, false, true≢false, not}
-use mathlib.Core.List.{List, [], _∷_, _++_, append-nil, append-assoc}
+use mathlib.Core.List.{List, [], _∷_, _++_, append-assoc}
 use native.Mathlib.Omega.{arith}
-use lib.ListN.{length, take, drop, replicate, drop-of-length-le, length-append, length-drop, length-replicate}
-use lib.Seq.{take-all, take-at, drop-at, drop-drop, length-take-le}
-use borrow.Rule.Slice.PartMut.{putMid, postOf}
+use lib.ListN.{length, take, drop, replicate, length-append, length-replicate}
+use lib.Seq.{take-at, drop-at, drop-drop, length-take-le}
+use borrow.Rule.Slice.PartMut.{putMid}
 use Rattle.segment.specs.declared.write.Outgoing.{Outgoing}
 use Rattle.segment.specs.Checksum.{onesSum, complement}
-use Rattle.segment.specs.Write.{padding, padded, mssBytes, fastOpenBytes, optionBytes, headerBytes, overwrite}
+use Rattle.segment.specs.Write.{padding, padded, mssBytes, fastOpenBytes, optionBytes, headerBytes}
+use Rattle.lists.specs.Bytes.{overwrite}
+use Rattle.lists.proofs.Lent.{lent, lent-out, copied}
 use Rattle.segment.proofs.Sums.{sum-append}
-
--- the output from `at` on was lent, and came back as `last`
-pub lent : (out last : List ℕ) (at : ℕ) → at ≤ length out → putMid at (length out - at) out last ≡ take at out ++ last
-lent out last at h =
-    let b : length (drop at out) ≤ length out - at = omega (arith, length-drop at out) in
-    let p : postOf at (length out - at) out ≡ [] = drop-of-length-le (drop at out) b in
-    ap (λ (x : List ℕ). take at out ++ (last ++ x)) p ∙ ap (λ (x : List ℕ). take at out ++ x) (append-nil last)
-
--- what was lent is the output from `at` on
-pub lent-out : (out : List ℕ) (at : ℕ) → take (length out - at) (drop at out) ≡ drop at out
-lent-out out at = take-all (length out - at) (drop at out) (omega (arith, length-drop at out))
-
--- bytes copied to the start of what was lent
-pub copied : (out src last : List ℕ) (at : ℕ) → at ≤ length out
-    → last ≡ take (length src) src ++ drop (length src) (take (length out - at) (drop at out))
-    → putMid at (length out - at) out last ≡ take at out ++ (src ++ drop (at + length src) out)
-copied out src last at h e =
-    let r : take (length src) src ≡ src = take-all (length src) src (omega arith) in
-    let l : last ≡ src ++ drop (at + length src) out = e ∙ rw (r, lent-out out at, drop-drop) in
-    lent out last at h ∙ ap (λ (x : List ℕ). take at out ++ x) l
 
 -- the first n bytes of the output o are those of a, and the later ones stay
 abbrev pub Wrote : List ℕ → List ℕ → ℕ → List ℕ → Type 0

@@ -11,8 +11,9 @@ use borrow.Author.Tests.{leb-true, eq-eqb, ne-eqb}
 use Rattle.segment.specs.declared.write.Outgoing.{Outgoing}
 use Rattle.segment.specs.Options.{isCookieLength}
 use Rattle.segment.specs.Checksum.{onesSum, complement, oneFamily, pseudoHeader, segmentSum}
-use Rattle.segment.specs.Write.{headerBytes, segmentWith, segmentBytes, optionAllowed, optionBytes, optionsFor, lengthFor, canWrite, written, overwrite}
-use Rattle.segment.proofs.Bools.{and-true}
+use Rattle.segment.specs.Write.{headerBytes, segmentWith, segmentBytes, optionAllowed, optionBytes, optionsFor, lengthFor, canWrite, written}
+use Rattle.lists.specs.Bytes.{overwrite}
+use Rattle.lists.proofs.Bools.{and-true}
 use Rattle.segment.proofs.Cookie.{cookie-length}
 use Rattle.segment.proofs.Writes.{options-plain, options-fast, options-least}
 

@@ -1,13 +1,8 @@
 -- RFC 9293, 3.1: bytes, and numbers in a segment, in network byte order (the high byte first).
 -- Assumes nothing.
-use Prim.Native.Nat.{ℕ, _+_, _*_, _/_, _%_, _<_}
+use Prim.Native.Nat.{ℕ, _+_, _*_, _/_, _%_}
 use mathlib.Core.List.{List, [], _∷_}
 use lib.ListN.{getD}
-
--- each number of a list is a byte
-abbrev pub Bytes : List ℕ → Type 0
-Bytes [] = Unit {0}
-Bytes (x ∷ xs) = (x < 256) × Bytes xs
 
 -- the low 16 bits of a number as two bytes, and the low 32 as four
 abbrev pub be16 : ℕ → List ℕ

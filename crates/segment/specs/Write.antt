@@ -3,7 +3,7 @@
 use Prim.Native.Nat.{ℕ, _+_, _-_, _*_, _/_, _%_}
 use mathlib.Core.List.{List, [], _∷_, _++_}
 use mathlib.Core.Bool.{Bool, true, false, cond, not, _&&_, _||_}
-use lib.ListN.{length, drop, replicate}
+use lib.ListN.{length, replicate}
 use lib.Dec.{leb, eqb}
 use Rattle.segment.specs.Bytes.{be16, be32}
 use Rattle.segment.specs.Header.{SYN, ACK}
@@ -74,10 +74,6 @@ unfoldable pub written : List ℕ → List ℕ → Outgoing → List ℕ → Lis
 written src dst f cookie payload room =
     cond (canWrite src dst f cookie payload room) (segmentBytes src dst f (optionsFor f cookie) payload) []
 
--- an output with these bytes at its start, and later bytes as they were
-abbrev pub overwrite : List ℕ → List ℕ → List ℕ
-overwrite bytes out = bytes ++ drop (length bytes) out
-
 -- "Answer": SYN and ACK, our initial number, their number + 1 + accepted, and a cookie if it is fresh
 abbrev pub answerFields : Answer → Outgoing
 answerFields a =
@@ -93,6 +89,11 @@ answerFields a =
 
 unfoldable pub answerBytes : List ℕ → List ℕ → Answer → List ℕ → ℕ → List ℕ
 answerBytes src dst a cookie room = written src dst (answerFields a) cookie [] room
+
+-- how many bytes that is: 36 with a fresh cookie, 24 without
+abbrev pub answerLength : Bool → ℕ
+answerLength false = 24
+answerLength true = 36
 
 -- "Client": SYN, our initial number, acknowledgement 0, and a Fast Open option if there is to be one
 abbrev pub openingFields : Opening → Outgoing

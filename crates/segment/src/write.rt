@@ -16,7 +16,8 @@ ghost use mathlib.Core.List.{_++_};
 ghost use Prim.Native.Nat.{_+_, _-_, _≤_, _<_};
 ghost use lib.ListN.{length, take, drop, replicate};
 ghost use Rattle.segment.specs.Checksum.{onesSum, complement, oneFamily, pseudoHeader};
-ghost use Rattle.segment.specs.Write.{padding, optionBytes, headerBytes, optionsFor, lengthFor, optionAllowed, canWrite, written, overwrite, answerBytes, openingBytes};
+ghost use Rattle.segment.specs.Write.{padding, optionBytes, headerBytes, optionsFor, lengthFor, optionAllowed, canWrite, written, answerBytes, openingBytes};
+ghost use Rattle.lists.specs.Bytes.{overwrite};
 
 // What a segment is to say, besides its cookie and its data. `fast`: with a Fast Open option.
 pub(crate) struct Outgoing {

@@ -2,7 +2,7 @@
 use mathlib.Core.Path.{_≡_, refl}
 use mathlib.Core.Bool.{true, false}
 use mathlib.Core.List.{[], _∷_}
-use Rattle.endpoint.specs.Lists.{sameBytes}
+use Rattle.lists.specs.Bytes.{sameBytes}
 use Rattle.text.specs.declared.number.Number.the-variants as number
 use Rattle.text.specs.declared.bytestring.ByteString.the-variants as bytes
 use Rattle.text.specs.Line.{isSilent}

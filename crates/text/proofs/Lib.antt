@@ -1,11 +1,10 @@
 -- For the crates above: Puts (puts that follow one another are one put) and Lines (a step through the input goes on). RoundTrips: what is put is read again; Examples: computed by
--- the definitions. The others carry these and the functions' proofs: Places (tests and counts of a list, place by place); Words, Numbers and Pairs (one turn of each reader);
+-- the definitions. The others carry these and the functions' proofs: Words, Numbers and Pairs (one turn of each reader);
 -- Digits (numbers and byte strings as text).
 pub mod Puts
 pub mod Lines
 pub mod RoundTrips
 pub mod Examples
-pub mod Places
 pub mod Words
 pub mod Numbers
 pub mod Pairs

@@ -9,8 +9,8 @@ use lib.Dec.{leb, ltb}
 use lib.ListN.{length, drop, getD, drop-of-length-le}
 use lib.Seq.{drop-cons}
 use borrow.Author.Tests.{leb-true, le-leb, lt-leb, lt-ltb, le-ltb}
-use Rattle.segment.proofs.Bools.{and-true}
-use Rattle.endpoint.specs.Lists.{every}
+use Rattle.lists.proofs.Bools.{and-true}
+use Rattle.lists.specs.Lists.{every}
 use Rattle.text.specs.declared.number.Number.{Number}
 use Rattle.text.specs.declared.number.Number.the-variants.{Value, Bad}
 use Rattle.text.specs.Number.{isDigit, isNumber, digit, valueFrom, numberIn}

@@ -10,12 +10,12 @@ use lib.ListN.{length, take, drop, getD, set}
 use lib.Seq.{length-take-le, take-suc, drop-cons, append-snoc, set-at}
 use lib.Dec.{eqb, ltb, leb·zero}
 use borrow.Author.Tests.{ltb-true, lt-ltb, le-ltb, le-leb, lt-leb, eq-eqb, ne-eqb}
-use Rattle.segment.specs.Write.{overwrite}
-use Rattle.endpoint.specs.Lists.{every}
+use Rattle.lists.specs.Bytes.{overwrite}
+use Rattle.lists.specs.Lists.{every}
 use Rattle.text.specs.declared.bytestring.ByteString.{ByteString}
 use Rattle.text.specs.declared.bytestring.ByteString.the-variants.{Count, Bad}
 use Rattle.text.specs.ByteString.{isDash, nibble, isHexDigit, isHex, pairBytes, bytesOf, isReadable, bytesIn, bytesRead}
-use Rattle.text.proofs.Places.{each-passes}
+use Rattle.lists.proofs.Places.{each-passes}
 
 pub half : (s : List ℕ) → length (pairBytes s) ≡ length s / 2
 unfolding pairBytes
@@ -36,7 +36,7 @@ pair-at (a ∷ b ∷ s) (suc i) h =
 
 -- a digit counts less than 16
 pub below-sixteen : (s : List ℕ) → every isHexDigit s ≡ true → (i : ℕ) → i < length s → nibble (getD s i 0) < 16
-below-sixteen s e i h = ltb-true _ _ (each-passes isHexDigit s e i h)
+below-sixteen s e i h = ltb-true _ _ (each-passes isHexDigit s e i 0 h)
 
 -- a byte is put after those before it
 module _ (s out : List ℕ) (i : ℕ) (h : i < length (pairBytes s)) (room : length (pairBytes s) ≤ length out) where

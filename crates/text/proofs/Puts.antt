@@ -9,7 +9,7 @@ use lib.ListN.{length, take, drop, length-append}
 use lib.Seq.{take-all, take-append-le, take-append-add, drop-drop, length-take-le, length-paste, take-paste, drop-paste, paste, paste-zero}
 use borrow.Author.Tests.{leb-true, leb-false}
 use borrow.Rule.Slice.PartMut.{putMid}
-use Rattle.segment.proofs.Writes.{copied}
+use Rattle.lists.proofs.Lent.{copied}
 use Rattle.text.specs.Put.{fitting, placeAfter, laid}
 
 -- ---- what a put leaves, by how many bytes fit; a put past the end changes nothing

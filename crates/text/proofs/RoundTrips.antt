@@ -8,9 +8,10 @@ use native.Mathlib.Omega.{arith}
 use lib.Dec.{eqb, ltb}
 use lib.ListN.{length, getD, length-append}
 use borrow.Author.Tests.{ltb-true, ltb-false, le-leb, lt-leb, lt-ltb, not-true}
-use Rattle.segment.specs.Bytes.{Bytes}
-use Rattle.segment.proofs.Bools.{and-true}
-use Rattle.endpoint.specs.Lists.{sameBytes, every}
+use Rattle.lists.specs.Bytes.{Bytes}
+use Rattle.lists.proofs.Bools.{and-true}
+use Rattle.lists.specs.Bytes.{sameBytes}
+use Rattle.lists.specs.Lists.{every}
 use Rattle.text.specs.declared.number.Number.the-variants.{Value}
 use Rattle.text.specs.declared.bytestring.ByteString.the-variants.{Count}
 use Rattle.text.specs.Word.{isSpace, spaces, firstWord, afterWord, wordAt}

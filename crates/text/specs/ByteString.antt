@@ -5,7 +5,8 @@ use mathlib.Core.List.{List, [], _∷_}
 use mathlib.Core.Bool.{Bool, cond, _&&_, _||_}
 use lib.ListN.{length}
 use lib.Dec.{leb, ltb, eqb}
-use Rattle.endpoint.specs.Lists.{sameBytes, every}
+use Rattle.lists.specs.Bytes.{sameBytes}
+use Rattle.lists.specs.Lists.{every}
 use Rattle.text.specs.declared.bytestring.ByteString.{ByteString}
 use Rattle.text.specs.declared.bytestring.ByteString.the-variants.{Count, Bad}
 

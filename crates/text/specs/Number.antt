@@ -5,7 +5,7 @@ use mathlib.Core.List.{List, [], _∷_, _++_}
 use mathlib.Core.Bool.{Bool, cond, _&&_}
 use lib.ListN.{length}
 use lib.Dec.{leb, ltb}
-use Rattle.endpoint.specs.Lists.{every}
+use Rattle.lists.specs.Lists.{every}
 use Rattle.text.specs.declared.number.Number.{Number}
 use Rattle.text.specs.declared.number.Number.the-variants.{Value, Bad}
 use Rattle.text.specs.declared.number.Number16.{Number16}

@@ -5,7 +5,7 @@ use mathlib.Core.List.{List}
 use mathlib.Core.Bool.{Bool}
 use lib.ListN.{drop}
 use lib.Dec.{eqb}
-use Rattle.endpoint.specs.Lists.{every}
+use Rattle.lists.specs.Lists.{every}
 
 -- every byte is b
 abbrev pub isFilled : ℕ → List ℕ → Bool

@@ -4,7 +4,7 @@ use Prim.Native.Nat.{ℕ, zero, suc}
 use mathlib.Core.List.{List, [], _∷_}
 use mathlib.Core.Bool.{Bool, cond}
 use lib.Dec.{eqb}
-use Rattle.endpoint.specs.Lists.{tally}
+use Rattle.lists.specs.Lists.{tally}
 
 abbrev pub isSpace : ℕ → Bool
 isSpace b = eqb b 32

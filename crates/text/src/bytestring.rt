@@ -4,8 +4,8 @@ ghost use mathlib.Core.Path.{_≡_};
 ghost use Prim.Native.Nat.{_≤_};
 ghost use mathlib.Core.Bool.{true};
 ghost use lib.ListN.{length};
-ghost use Rattle.segment.specs.Write.{overwrite};
-ghost use Rattle.endpoint.specs.Lists.{every};
+ghost use Rattle.lists.specs.Bytes.{overwrite};
+ghost use Rattle.lists.specs.Lists.{every};
 ghost use Rattle.text.specs.ByteString.{nibble, isHexDigit, pairBytes, bytesIn, bytesRead};
 
 // How many bytes were read, or that the word is no byte string, or one too long for the buffer.

@@ -5,7 +5,7 @@ use crate::number::Number16;
 use crate::number::read_number16;
 ghost use mathlib.Core.Path.{_≡_};
 ghost use lib.ListN.{length};
-ghost use Rattle.segment.specs.Write.{overwrite};
+ghost use Rattle.lists.specs.Bytes.{overwrite};
 ghost use Rattle.text.specs.Name.{nameIn, addressIn};
 
 // How many bytes the address has, and the port; or that a word of the two is bad.

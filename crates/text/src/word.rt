@@ -1,6 +1,6 @@
 // The words of a line, each ended by one space or by the line's end.
 ghost use mathlib.Core.Path.{_≡_};
-ghost use Rattle.endpoint.specs.Lists.{sameBytes};
+ghost use Rattle.lists.specs.Bytes.{sameBytes};
 ghost use Rattle.text.specs.Word.{spaces, wordAt};
 
 // How many spaces a line has: one less than its words.

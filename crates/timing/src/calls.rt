@@ -1,7 +1,6 @@
 // Whole calls of a listener, as a program makes them: the listener goes into a call and comes back in its outcome.
 use crate::data;
 use crate::data::wide;
-use listener::answer::Event;
 use listener::answer::accepted_count;
 use listener::answer::event_number;
 use listener::calls::abandon;
@@ -9,8 +8,9 @@ use listener::calls::close;
 use listener::calls::segment;
 use listener::calls::set_settings;
 use listener::calls::start;
-use listener::state::Listener;
-use listener::state::Settings;
+use protocol::answer::Event;
+use protocol::state::Listener;
+use protocol::state::Settings;
 use segment::sequence::next_after;
 use std::num::wrapping_add_u64;
 

@@ -7,7 +7,7 @@ use native.Mathlib.Omega.{arith}
 use lib.ListN.{length, length-map}
 use borrow.Author.Tests.{lt-ltb, le-ltb}
 use Rattle.client.specs.Bans.{isLive}
-use Rattle.client.proofs.Finding.{Searched, searched-start, searched-on, searched-found, searched-end}
+use Rattle.lists.proofs.Finding.{Searched, searched-start, searched-on, searched-found, searched-end}
 use borrow.Author.Needs.{needs}
 use Rattle.client.proofs.bans.free_place.Statement.{statement}
 use Rattle.client.proofs.bans.free_place.Tie as tie

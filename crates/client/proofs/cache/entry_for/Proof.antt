@@ -4,7 +4,7 @@ use Prim.Native.Nat.{ℕ, _<_}
 use mathlib.Core.Path.{_≡_, sym, ap, _∙_}
 use native.Mathlib.Omega.{arith}
 use lib.ListN.{length, length-map, getD, List·getD-eq-default}
-use Rattle.endpoint.proofs.Sums.{present}
+use Rattle.lists.proofs.Sums.{present}
 use Rattle.client.specs.Cache.{unusedEntry}
 use borrow.Author.Needs.{needs}
 use Rattle.client.proofs.cache.entry_for.Statement.{statement}

@@ -6,8 +6,8 @@ use mathlib.Core.Bool.{_&&_}
 use mathlib.Core.Logic.{⊎-elim}
 use native.Mathlib.Omega.{arith}
 use lib.ListN.{length, drop}
-use Rattle.endpoint.specs.Lists.{sameBytes}
-use Rattle.endpoint.proofs.Comparing.{differ, agree, at-end}
+use Rattle.lists.specs.Bytes.{sameBytes}
+use Rattle.lists.proofs.Comparing.{differ, agree, at-end}
 use borrow.Author.Needs.{needs}
 use Rattle.endpoint.proofs.address.same_block.Statement.{statement}
 use Rattle.endpoint.proofs.address.same_block.Tie as tie

@@ -2,7 +2,7 @@
 -- Assumes nothing.
 use mathlib.Core.Path.{sym}
 use lib.Seq.{length-take-le}
-use Rattle.listener.proofs.Parts.{none-taken, taken}
+use Rattle.protocol.proofs.Starting.{none-taken, taken}
 use borrow.Author.Needs.{needs}
 use Rattle.listener.proofs.answer.accepted_part.Statement.{statement}
 use Rattle.listener.proofs.answer.accepted_part.Tie as tie

@@ -4,13 +4,13 @@ use Prim.Native.Nat.{_-_, _≤_, _<_}
 use mathlib.Core.Path.{_≡_}
 use native.Mathlib.Omega.{arith}
 use lib.ListN.{length, length-map}
-use Rattle.listener.proofs.Scanning.{Counted, counted-start, counted-on, counted-end}
+use Rattle.table.proofs.Scanning.{CountedTo, counted-start, counted-next, counted-end}
 use borrow.Author.Needs.{needs}
 use Rattle.listener.proofs.calls.count_pending.Statement.{statement}
 use Rattle.listener.proofs.calls.count_pending.Tie as tie
 
 abbrev Inv-loop : tie.InvT-loop
-Inv-loop l clock n₀ i₀ n i = (i ≤ 64) × Counted clock (l .slots) i n
+Inv-loop l clock n₀ i₀ n i = (i ≤ 64) × CountedTo clock (l .slots) i n
 
 abbrev μ-loop : tie.MeasureT-loop
 μ-loop l clock n₀ i₀ n i = 64 - i
@@ -28,7 +28,7 @@ is-pending-requires : tie.Need-is-pending-requires Inv-loop μ-loop
 is-pending-requires c κs = search needs
 
 count-if-requires : tie.Need-count-if-requires Inv-loop μ-loop
-count-if-requires c κs = omega (arith, c .before .before .before .loop .inv .1 .few)
+count-if-requires c κs = search needs
 
 add-i : tie.Need-add-i Inv-loop μ-loop
 add-i c = search needs
@@ -42,7 +42,7 @@ loop-again c =
     let i = c .before .before .before .before .loop .i in
     let n : length s ≡ 64 = simp length-map at (c .before .before .before .before .before .good .0 .1 .1 .0 .1 .0 .1) in
     let h : i < length s = omega arith in
-    (omega arith, counted-on _ s i _ _ _ h (c .before .before .before .before .loop .inv .1) (c .before .is-pending .ensures) (c .count-if .ensures))
+    (omega arith, counted-next _ s i _ _ _ n h (c .before .before .before .before .loop .inv .1) (c .before .is-pending .ensures) (c .count-if .ensures))
 
 returns : tie.Need-returns Inv-loop μ-loop
 returns c =

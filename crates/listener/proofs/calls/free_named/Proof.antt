@@ -1,24 +1,94 @@
--- `listener::calls::free_named` meets its contract: the loop's invariant is what is known at place i; then by the checks.
+-- `listener::calls::free_named` meets its contract: the loop's invariant is what is known at place i; then by the checks. Each place that later ones look
+-- back to names what is known there.
 -- Assumes nothing.
-use Prim.Native.Nat.{_-_, _≤_, _<_}
+use Prim.Native.Nat.{_-_, _<_}
 use mathlib.Core.Path.{_≡_, sym, _∙_}
+use mathlib.Core.Bool.{true}
+use mathlib.Core.List.{_++_}
 use native.Mathlib.Omega.{arith}
 use lib.ListN.{length, length-map}
 use borrow.Author.Tests.{not-true, not-false}
-use Rattle.endpoint.specs.Checks.{isUntimely}
+use borrow.Author.Needs.{needs}
+use Rattle.segment.specs.Refusal.{refusal}
+use Rattle.segment.specs.declared.refusal.Check.the-variants.{Clear}
+use Rattle.endpoint.specs.Address.{Peer, block}
+use Rattle.endpoint.specs.Checks.{isUntimely, timely, addressed}
 use Rattle.endpoint.proofs.Blocks.{kept}
 use Rattle.endpoint.proofs.Chain.{named-short}
-use Rattle.listener.proofs.Scanning.{Seen, seen-start, seen-on}
-use Rattle.listener.proofs.Calling.{release-stopped, release-none, release-done, looked, peer-slot, freed-is, released-within}
-use borrow.Author.Needs.{needs}
+use Rattle.protocol.specs.Table.{scanOf}
+use Rattle.protocol.specs.View.{slotAt, view}
+use Rattle.protocol.specs.Refusals.{isReleasable}
+use Rattle.protocol.proofs.Calling.{release-stopped, release-none, release-done}
+use Rattle.listener.proofs.Lookup.{Looking, looking-start, looking-on, looked, peer-slot, freed-is, released-within}
 use Rattle.listener.proofs.calls.free_named.Statement.{statement}
 use Rattle.listener.proofs.calls.free_named.Tie as tie
 
 abbrev Inv-loop : tie.InvT-loop
-Inv-loop time addr port established next b seen₀ i₀ seen i = (i ≤ 64) × Seen time b port (next .slots) i seen
+Inv-loop time addr port established next b seen₀ i₀ seen i = Looking time b port (next .slots) i seen
 
 abbrev μ-loop : tie.MeasureT-loop
 μ-loop time addr port established next b seen₀ i₀ seen i = 64 - i
+
+-- The first checks have answered
+abbrev entry : tie.After-check-name Inv-loop μ-loop → tie.Start Inv-loop μ-loop
+entry c = c .before .before .before
+
+-- They are clear, and the address is put into its block
+module _ (c : tie.After-block-of Inv-loop μ-loop) where
+  abbrev checked : tie.After-check-name Inv-loop μ-loop
+  checked = c .before .before .before
+
+  abbrev began : tie.Start Inv-loop μ-loop
+  began = entry checked
+
+  clear : refusal (timely (began .args .l .home .started) (isUntimely (began .args .l .clock) (began .args .time)) ++ addressed (began .args .l .home .family) (began .args .addr .now)) ≡ Clear
+  clear = sym (checked .check-name .ensures) ∙ c .before .enum-told .given .1
+
+  block-is : c .block-of .result ≡ block (began .args .addr .now)
+  block-is =
+      let a = began .args in
+      kept (a .addr .now) (named-short (a .l .home .started) (isUntimely (a .l .clock) (a .time)) (a .l .home .family) (a .addr .now) clear) (c .block-of .ensures)
+
+  full : length (began .args .l .slots) ≡ 64
+  full = simp length-map at (began .good .0 .1 .1 .0 .1 .0 .1)
+
+-- The loop is at a place
+abbrev blocked : tie.At-loop Inv-loop μ-loop → tie.After-block-of Inv-loop μ-loop
+blocked c = c .before .before
+
+-- The peer's slot has been read
+module _ (c : tie.After-slot-found Inv-loop μ-loop) where
+  abbrev scanned : tie.At-loop Inv-loop μ-loop
+  scanned = c .before .before .before .before
+
+  abbrev named : tie.After-block-of Inv-loop μ-loop
+  named = blocked scanned
+
+  abbrev start : tie.Start Inv-loop μ-loop
+  start = began named
+
+  abbrev peer : Peer
+  peer = record { address = start .args .addr .now; port = start .args .port }
+
+  found : (scanned .loop .seen ≡ scanOf (start .args .time) (named .block-of .result) (start .args .port) (start .args .l .slots))
+      × (c .slot-found .result ≡ slotAt (start .args .l) (scanned .loop .seen .place))
+  found =
+      looked (start .args .l) (start .args .time) _ _ (scanned .loop .i) (scanned .loop .seen) _ _ (full named) (c .before .before .before .loop-test .left) (scanned .loop .inv)
+      (c .before .before .within .ensures) (c .slot-found .ensures)
+
+  peer-is : c .slot-found .result ≡ view (start .args .l) (start .args .time) peer .slot
+  peer-is = peer-slot (start .args .l) (start .args .time) (start .args .addr .now) (start .args .port) (block-is named) (found .0) (found .1)
+
+-- Whether it may be freed is known
+module _ (c : tie.After-is-releasable Inv-loop μ-loop) where
+  abbrev read : tie.After-slot-found Inv-loop μ-loop
+  read = c .before
+
+  releasable : isReleasable (start read .args .established) (view (start read .args .l) (start read .args .time) (peer read) .slot .status) ≡ c .is-releasable .result
+  releasable = sym (rw (peer-is read) at (c .is-releasable .ensures))
+
+  in-table : c .is-releasable .result ≡ true → scanned read .loop .seen .place < 64
+  in-table k = released-within (start read .args .l) (full (named read)) _ (found read .1) (start read .args .established) (sym (c .is-releasable .ensures) ∙ k)
 
 check-name-requires : tie.Need-check-name-requires Inv-loop μ-loop
 check-name-requires c κs = search needs
@@ -31,8 +101,9 @@ refused-requires c κs = search needs
 
 returns : tie.Need-returns Inv-loop μ-loop
 returns c =
-    let a = c .before .before .before .before .before .before .before .args in
-    c .refused .ensures ∙ sym (release-stopped (a .l) (a .time) (a .addr .now) (a .port) (a .established) (sym (c .before .before .before .before .check-name .ensures) ∙ c .before .before .why .given .1))
+    let checked = c .before .before .before .before in
+    let a = entry checked .args in
+    c .refused .ensures ∙ sym (release-stopped (a .l) (a .time) (a .addr .now) (a .port) (a .established) (sym (checked .check-name .ensures) ∙ c .before .before .why .given .1))
 
 enum-told : tie.Need-enum-told Inv-loop μ-loop
 enum-told c = search needs
@@ -44,9 +115,7 @@ nothing-seen-requires : tie.Need-nothing-seen-requires Inv-loop μ-loop
 nothing-seen-requires c κs = search needs
 
 loop-holds : tie.Need-loop-holds Inv-loop μ-loop
-loop-holds c =
-    let n : length (c .before .before .before .before .before .before .before .args .l .slots) ≡ 64 = simp length-map at (c .before .before .before .before .before .before .before .good .0 .1 .1 .0 .1 .0 .1) in
-    rw (c .nothing-seen .ensures) (omega arith, seen-start _ _ _ _ n)
+loop-holds c = looking-start _ _ _ _ (full (c .before)) _ (c .nothing-seen .ensures)
 
 mul-s : tie.Need-mul-s Inv-loop μ-loop
 mul-s c = search needs
@@ -55,7 +124,7 @@ element-copy-out-s : tie.Need-element-copy-out-s Inv-loop μ-loop
 element-copy-out-s c = search needs
 
 look-requires : tie.Need-look-requires Inv-loop μ-loop
-look-requires c κs = omega (arith, c .before .before .loop .inv .1 .few)
+look-requires c κs = search needs
 
 add-i : tie.Need-add-i Inv-loop μ-loop
 add-i c = search needs
@@ -65,11 +134,8 @@ loop-less c = search needs
 
 loop-again : tie.Need-loop-again Inv-loop μ-loop
 loop-again c =
-    let s = c .before .before .before .before .before .before .before .before .before .before .before .args .l .slots in
-    let i = c .before .before .before .loop .i in
-    let n : length s ≡ 64 = simp length-map at (c .before .before .before .before .before .before .before .before .before .before .before .good .0 .1 .1 .0 .1 .0 .1) in
-    let h : i < length s = omega arith in
-    (omega arith, seen-on _ _ _ s i _ _ _ h (c .before .before .before .loop .inv .1) (c .look .ensures))
+    let at = c .before .before .before in
+    looking-on _ _ _ (began (blocked at) .args .l .slots) (full (blocked at)) (at .loop .i) _ _ _ (omega arith) (at .loop .inv) (c .look .ensures)
 
 within-requires : tie.Need-within-requires Inv-loop μ-loop
 within-requires c κs = search needs
@@ -91,54 +157,28 @@ refused-requires-2 c κs = search needs
 
 returns-2 : tie.Need-returns-2 Inv-loop μ-loop
 returns-2 c =
-    let st = c .before .before .before .before .before .before .before .before .before .before .before .before .before .before .before in
-    let a = st .args in
-    let first = sym (c .before .before .before .before .before .before .before .before .before .before .before .before .check-name .ensures) ∙ c .before .before .before .before .before .before .before .before .before .before .enum-told .given .1 in
-    let own = kept (a .addr .now) (named-short (a .l .home .started) (isUntimely (a .l .clock) (a .time)) (a .l .home .family) (a .addr .now) first) (c .before .before .before .before .before .before .before .before .before .block-of .ensures) in
-    let n : length (a .l .slots) ≡ 64 = simp length-map at (st .good .0 .1 .1 .0 .1 .0 .1) in
-    let found = looked (a .l) (a .time) _ _ (c .before .before .before .before .before .before .before .loop .i) (c .before .before .before .before .before .before .before .loop .seen) _ _ n (c .before .before .before .before .before .before .loop-test .left) (c .before .before .before .before .before .before .before .loop .inv .1) (c .before .before .before .before .before .within .ensures) (c .before .before .before .slot-found .ensures) in
-    let s = peer-slot (a .l) (a .time) (a .addr .now) (a .port) own (found .0) (found .1) in
-    c .refused2 .ensures ∙ sym (release-none (a .l) (a .time) (a .addr .now) (a .port) (a .established) first
-    (sym (rw s at (c .before .before .is-releasable .ensures)) ∙ not-true _ (c .before .if1 .taken)))
+    let p = c .before .before in
+    let a = start (read p) .args in
+    c .refused2 .ensures ∙ sym (release-none (a .l) (a .time) (a .addr .now) (a .port) (a .established) (clear (named (read p))) (releasable p ∙ not-true _ (c .before .if1 .taken)))
 
 with-status-requires : tie.Need-with-status-requires Inv-loop μ-loop
 with-status-requires c κs = search needs
 
 mul-freed : tie.Need-mul-freed Inv-loop μ-loop
-mul-freed c =
-    let st = c .before .before .before .before .before .before .before .before .before .before .before .before .before .before .before in
-    let a = st .args in
-    let first = sym (c .before .before .before .before .before .before .before .before .before .before .before .before .check-name .ensures) ∙ c .before .before .before .before .before .before .before .before .before .before .enum-told .given .1 in
-    let own = kept (a .addr .now) (named-short (a .l .home .started) (isUntimely (a .l .clock) (a .time)) (a .l .home .family) (a .addr .now) first) (c .before .before .before .before .before .before .before .before .before .block-of .ensures) in
-    let n : length (a .l .slots) ≡ 64 = simp length-map at (st .good .0 .1 .1 .0 .1 .0 .1) in
-    let found = looked (a .l) (a .time) _ _ (c .before .before .before .before .before .before .before .loop .i) (c .before .before .before .before .before .before .before .loop .seen) _ _ n (c .before .before .before .before .before .before .loop-test .left) (c .before .before .before .before .before .before .before .loop .inv .1) (c .before .before .before .before .before .within .ensures) (c .before .before .before .slot-found .ensures) in
-    omega (arith, released-within (a .l) n _ (found .1) (a .established) (sym (c .before .before .is-releasable .ensures) ∙ not-false _ (c .before .if1 .left)))
+mul-freed c = omega (arith, in-table (c .before .before) (not-false _ (c .before .if1 .left)))
 
 element-set-from-freed : tie.Need-element-set-from-freed Inv-loop μ-loop
-element-set-from-freed c =
-    let st = c .before .before .before .before .before .before .before .before .before .before .before .before .before .before .before in
-    let a = st .args in
-    let first = sym (c .before .before .before .before .before .before .before .before .before .before .before .before .check-name .ensures) ∙ c .before .before .before .before .before .before .before .before .before .before .enum-told .given .1 in
-    let own = kept (a .addr .now) (named-short (a .l .home .started) (isUntimely (a .l .clock) (a .time)) (a .l .home .family) (a .addr .now) first) (c .before .before .before .before .before .before .before .before .before .block-of .ensures) in
-    let n : length (a .l .slots) ≡ 64 = simp length-map at (st .good .0 .1 .1 .0 .1 .0 .1) in
-    let found = looked (a .l) (a .time) _ _ (c .before .before .before .before .before .before .before .loop .i) (c .before .before .before .before .before .before .before .loop .seen) _ _ n (c .before .before .before .before .before .before .loop-test .left) (c .before .before .before .before .before .before .before .loop .inv .1) (c .before .before .before .before .before .within .ensures) (c .before .before .before .slot-found .ensures) in
-    omega (arith, released-within (a .l) n _ (found .1) (a .established) (sym (c .before .before .is-releasable .ensures) ∙ not-false _ (c .before .if1 .left)))
+element-set-from-freed c = omega (arith, in-table (c .before .before) (not-false _ (c .before .if1 .left)))
 
 done-requires : tie.Need-done-requires Inv-loop μ-loop
 done-requires c κs = search needs
 
 returns-3 : tie.Need-returns-3 Inv-loop μ-loop
 returns-3 c =
-    let st = c .before .before .before .before .before .before .before .before .before .before .before .before .before .before .before .before in
-    let a = st .args in
-    let first = sym (c .before .before .before .before .before .before .before .before .before .before .before .before .before .check-name .ensures) ∙ c .before .before .before .before .before .before .before .before .before .before .before .enum-told .given .1 in
-    let own = kept (a .addr .now) (named-short (a .l .home .started) (isUntimely (a .l .clock) (a .time)) (a .l .home .family) (a .addr .now) first) (c .before .before .before .before .before .before .before .before .before .before .block-of .ensures) in
-    let n : length (a .l .slots) ≡ 64 = simp length-map at (st .good .0 .1 .1 .0 .1 .0 .1) in
-    let found = looked (a .l) (a .time) _ _ (c .before .before .before .before .before .before .before .before .loop .i) (c .before .before .before .before .before .before .before .before .loop .seen) _ _ n (c .before .before .before .before .before .before .before .loop-test .left) (c .before .before .before .before .before .before .before .before .loop .inv .1) (c .before .before .before .before .before .before .within .ensures) (c .before .before .before .before .slot-found .ensures) in
-    let s = peer-slot (a .l) (a .time) (a .addr .now) (a .port) own (found .0) (found .1) in
-    let m = freed-is (a .l) (a .time) (a .addr .now) (a .port) own (found .0) (found .1) (c .before .with-status .ensures) in
-    rw m at (c .done .ensures) ∙ sym (release-done (a .l) (a .time) (a .addr .now) (a .port) (a .established) first
-    (sym (rw s at (c .before .before .before .is-releasable .ensures)) ∙ not-false _ (c .before .before .if1 .left)))
+    let p = c .before .before .before in
+    let a = start (read p) .args in
+    let m = freed-is (a .l) (a .time) (a .addr .now) (a .port) (block-is (named (read p))) (found (read p) .0) (found (read p) .1) (c .before .with-status .ensures) in
+    rw m at (c .done .ensures) ∙ sym (release-done (a .l) (a .time) (a .addr .now) (a .port) (a .established) (clear (named (read p))) (releasable p ∙ not-false _ (c .before .before .if1 .left)))
 
 pub free-named-spec : {M : Type 1} → statement M
 free-named-spec =

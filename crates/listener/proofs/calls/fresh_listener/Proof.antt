@@ -2,7 +2,7 @@
 -- Assumes nothing.
 use mathlib.Core.Path.{_∙_}
 use Rattle.endpoint.proofs.Blocks.{kept}
-use Rattle.listener.proofs.Parts.{fresh-made}
+use Rattle.listener.proofs.Start.{fresh-made}
 use borrow.Author.Needs.{needs}
 use Rattle.listener.proofs.calls.fresh_listener.Statement.{statement}
 use Rattle.listener.proofs.calls.fresh_listener.Tie as tie

@@ -1,6 +1,6 @@
 -- `listener::calls::pending` meets its contract: a listener that was started, or not.
 -- Assumes nothing.
-use Rattle.listener.specs.Step.{pendingNumber}
+use Rattle.protocol.specs.Step.{pendingNumber}
 use borrow.Author.Needs.{needs}
 use Rattle.listener.proofs.calls.pending.Statement.{statement}
 use Rattle.listener.proofs.calls.pending.Tie as tie

@@ -1,24 +1,130 @@
--- `listener::calls::segment` meets its contract: the loop's invariant is what is known at place i; by the checks before the segment's kind, and after.
+-- `listener::calls::segment` meets its contract: the loop's invariant is what is known at place i; by the checks before the segment's kind, and after. Each
+-- place that later ones look back to names what is known there.
 -- Assumes nothing.
-use Prim.Native.Nat.{_-_, _≤_, _<_}
-use mathlib.Core.Path.{_≡_, sym, _∙_}
+use Prim.Native.Nat.{_-_, _+_, _^_, _≤_, _<_}
+use mathlib.Core.Path.{_≡_, sym, ap, _∙_}
 use native.Mathlib.Omega.{arith}
 use lib.ListN.{length, length-map}
 use borrow.Author.Tests.{not-true, not-false}
+use borrow.Author.Needs.{needs}
+use Rattle.segment.specs.Refusal.{refusal}
+use Rattle.segment.specs.Header.{fieldsOf}
+use Rattle.segment.specs.declared.refusal.Check.the-variants.{Clear}
+use Rattle.endpoint.specs.Address.{block}
 use Rattle.endpoint.specs.Checks.{isUntimely}
 use Rattle.endpoint.proofs.Blocks.{kept}
 use Rattle.endpoint.proofs.Chain.{time-most}
-use Rattle.listener.proofs.Scanning.{Seen, seen-start, seen-on}
-use Rattle.listener.proofs.Calling.{segment-stopped, was-dropped, was-read, looked, viewed, taken-refused, taken-within, taken-unanswered, taken-answered, wired-short, wired-timely, unwritten, left-alone, written-over}
-use borrow.Author.Needs.{needs}
+use Rattle.protocol.specs.Table.{scanOf}
+use Rattle.protocol.specs.View.{slotAt, viewFrom}
+use Rattle.protocol.specs.Refusals.{kindChecks, wireChecks}
+use Rattle.protocol.specs.Step.{heldUntil}
+use Rattle.protocol.specs.declared.state.View.{View}
+use Rattle.protocol.proofs.Calling.{segment-stopped, wired-short, wired-timely, unwritten, left-alone, written-over}
+use Rattle.decisions.proofs.Receiving.{was-dropped, was-read}
+use Rattle.listener.proofs.Lookup.{Looking, looking-start, looking-on, looked, viewed}
+use Rattle.listener.proofs.Segment.{taken-refused, taken-within, taken-unanswered, taken-answered}
 use Rattle.listener.proofs.calls.segment.Statement.{statement}
 use Rattle.listener.proofs.calls.segment.Tie as tie
 
 abbrev Inv-loop : tie.InvT-loop
-Inv-loop time src seg iss out home h next b seen₀ i₀ seen i = (i ≤ 64) × Seen time b (h .source) (next .slots) i seen
+Inv-loop time src seg iss out home h next b seen₀ i₀ seen i = Looking time b (h .source) (next .slots) i seen
 
 abbrev μ-loop : tie.MeasureT-loop
 μ-loop time src seg iss out home h next b seen₀ i₀ seen i = 64 - i
+
+-- The first checks have answered
+abbrev entry : tie.After-receive Inv-loop μ-loop → tie.Start Inv-loop μ-loop
+entry c = c .before .before .before .before .before
+
+-- They are clear, the header is read, and the source address is put into its block
+module _ (c : tie.After-block-of Inv-loop μ-loop) where
+  abbrev header : tie.After-h Inv-loop μ-loop
+  header = c .before .before
+
+  abbrev received : tie.After-receive Inv-loop μ-loop
+  received = header .before .before
+
+  abbrev began : tie.Start Inv-loop μ-loop
+  began = entry received
+
+  read : (refusal (wireChecks (began .args .l .home) (isUntimely (began .args .l .clock) (began .args .time)) (began .args .src .now) (began .args .seg .now) (length (began .args .out .now))) ≡ Clear)
+      × (header .h .given .0 .0 ≡ fieldsOf (began .args .seg .now))
+  read = was-read _ _ (sym (received .receive .ensures) ∙ header .h .given .1)
+
+  block-is : c .block-of .result ≡ block (began .args .src .now)
+  block-is =
+      let a = began .args in
+      kept (a .src .now) (wired-short (a .l .home) (isUntimely (a .l .clock) (a .time)) (a .src .now) (a .seg .now) (length (a .out .now)) (read .0)) (c .block-of .ensures)
+
+  full : length (began .args .l .slots) ≡ 64
+  full = simp length-map at (began .good .0 .1 .1 .0 .1 .0 .1)
+
+  -- so the end of a hold is a number of 64 bits
+  on-time : began .args .time ≤ 2 ^ 48
+  on-time =
+      let a = began .args in
+      time-most (a .l .clock) (a .time) (wired-timely (a .l .home) (isUntimely (a .l .clock) (a .time)) (a .src .now) (a .seg .now) (length (a .out .now)) (read .0))
+
+-- The loop is at a place
+abbrev blocked : tie.At-loop Inv-loop μ-loop → tie.After-block-of Inv-loop μ-loop
+blocked c = c .before .before
+
+-- The peer's slot has been read, and the view made
+module _ (c : tie.After-check-kind Inv-loop μ-loop) where
+  abbrev kind : tie.After-kind-of Inv-loop μ-loop
+  kind = c .before
+
+  abbrev seen : tie.After-view-of Inv-loop μ-loop
+  seen = kind .before
+
+  abbrev slot : tie.After-slot-found Inv-loop μ-loop
+  slot = seen .before .before .before
+
+  abbrev scanned : tie.At-loop Inv-loop μ-loop
+  scanned = slot .before .before .before .before
+
+  abbrev named : tie.After-block-of Inv-loop μ-loop
+  named = blocked scanned
+
+  abbrev start : tie.Start Inv-loop μ-loop
+  start = began named
+
+  found : (scanned .loop .seen ≡ scanOf (start .args .time) (named .block-of .result) (header named .h .given .0 .0 .source) (start .args .l .slots))
+      × (slot .slot-found .result ≡ slotAt (start .args .l) (scanned .loop .seen .place))
+  found =
+      looked (start .args .l) (start .args .time) _ _ (scanned .loop .i) (scanned .loop .seen) _ _ (full named) (slot .before .before .before .loop-test .left) (scanned .loop .inv)
+      (slot .before .before .within .ensures) (slot .slot-found .ensures)
+
+  view-is : seen .view-of .result ≡ viewFrom (start .args .l) (start .args .time) (scanned .loop .seen)
+  view-is = viewed (start .args .l) (start .args .time) (scanned .loop .seen) (seen .view-of .ensures) (found .1)
+
+  end-is : start .args .time + start .args .l .settings .hold ≡ heldUntil (seen .view-of .result) (start .args .time)
+  end-is = ap (λ (v : View). heldUntil v (start .args .time)) (sym view-is)
+
+-- The segment is not refused
+module _ (c : tie.After-enum-told Inv-loop μ-loop) where
+  abbrev judged : tie.After-check-kind Inv-loop μ-loop
+  judged = c .before .before
+
+  clear : refusal (kindChecks (seen judged .view-of .result) (header (named judged) .h .given .0 .0) (kind judged .kind-of .result)) ≡ Clear
+  clear = sym (judged .check-kind .ensures) ∙ c .enum-told .given .1
+
+-- Its action is known, and the place that it changes
+module _ (c : tie.After-place-of Inv-loop μ-loop) where
+  abbrev acted : tie.After-act Inv-loop μ-loop
+  acted = c .before .before .before
+
+  abbrev told : tie.After-enum-told Inv-loop μ-loop
+  told = acted .before .before
+
+  abbrev on : tie.After-check-kind Inv-loop μ-loop
+  on = judged told
+
+  within : c .place-of .result < 64
+  within =
+      let a = start on .args in
+      taken-within (a .l) (a .time) (a .src .now) (a .seg .now) (a .iss) (length (a .out .now)) (read (named on) .0) (read (named on) .1) (block-is (named on)) (found on .0) (view-is on) (kind on .kind-of .ensures)
+      (full (named on)) (clear told) (end-is on) (acted .act .result) (acted .act .ensures) (c .place-of .ensures)
 
 receive-requires : tie.Need-receive-requires Inv-loop μ-loop
 receive-requires c κs = search needs
@@ -31,9 +137,10 @@ refused-requires c κs = search needs
 
 returns : tie.Need-returns Inv-loop μ-loop
 returns c =
-    let a = c .before .before .before .before .before .before .before .before .before .args in
+    let received = c .before .before .before .before in
+    let a = entry received .args in
     unwritten (a .out .now) (c .refused .ensures) (segment-stopped (a .l) (a .time) (a .src .now) (a .seg .now) (a .iss) (length (a .out .now))
-    (was-dropped _ _ (sym (c .before .before .before .before .receive .ensures) ∙ c .before .before .why .given .1)))
+    (was-dropped _ _ (sym (received .receive .ensures) ∙ c .before .before .why .given .1)))
 
 enum-known-h : tie.Need-enum-known-h Inv-loop μ-loop
 enum-known-h c = search needs
@@ -45,9 +152,7 @@ nothing-seen-requires : tie.Need-nothing-seen-requires Inv-loop μ-loop
 nothing-seen-requires c κs = search needs
 
 loop-holds : tie.Need-loop-holds Inv-loop μ-loop
-loop-holds c =
-    let n : length (c .before .before .before .before .before .before .before .before .before .before .args .l .slots) ≡ 64 = simp length-map at (c .before .before .before .before .before .before .before .before .before .before .good .0 .1 .1 .0 .1 .0 .1) in
-    rw (c .nothing-seen .ensures) (omega arith, seen-start _ _ _ _ n)
+loop-holds c = looking-start _ _ _ _ (full (c .before)) _ (c .nothing-seen .ensures)
 
 mul-s : tie.Need-mul-s Inv-loop μ-loop
 mul-s c = search needs
@@ -56,7 +161,7 @@ element-copy-out-s : tie.Need-element-copy-out-s Inv-loop μ-loop
 element-copy-out-s c = search needs
 
 look-requires : tie.Need-look-requires Inv-loop μ-loop
-look-requires c κs = omega (arith, c .before .before .loop .inv .1 .few)
+look-requires c κs = search needs
 
 add-i : tie.Need-add-i Inv-loop μ-loop
 add-i c = search needs
@@ -66,11 +171,8 @@ loop-less c = search needs
 
 loop-again : tie.Need-loop-again Inv-loop μ-loop
 loop-again c =
-    let s = c .before .before .before .before .before .before .before .before .before .before .before .before .before .before .args .l .slots in
-    let i = c .before .before .before .loop .i in
-    let n : length s ≡ 64 = simp length-map at (c .before .before .before .before .before .before .before .before .before .before .before .before .before .before .good .0 .1 .1 .0 .1 .0 .1) in
-    let h : i < length s = omega arith in
-    (omega arith, seen-on _ _ _ s i _ _ _ h (c .before .before .before .loop .inv .1) (c .look .ensures))
+    let at = c .before .before .before in
+    looking-on _ _ _ (began (blocked at) .args .l .slots) (full (blocked at)) (at .loop .i) _ _ _ (omega arith) (at .loop .inv) (c .look .ensures)
 
 within-requires : tie.Need-within-requires Inv-loop μ-loop
 within-requires c κs = search needs
@@ -101,80 +203,44 @@ refused-requires-2 c κs = search needs
 
 returns-2 : tie.Need-returns-2 Inv-loop μ-loop
 returns-2 c =
-    let st = c .before .before .before .before .before .before .before .before .before .before .before .before .before .before .before .before .before .before .before .before .before .before .before .before in
-    let a = st .args in
-    let was = was-read _ _ (sym (c .before .before .before .before .before .before .before .before .before .before .before .before .before .before .before .before .before .before .before .receive .ensures) ∙ c .before .before .before .before .before .before .before .before .before .before .before .before .before .before .before .before .before .h .given .1) in
-    let short = wired-short (a .l .home) (isUntimely (a .l .clock) (a .time)) (a .src .now) (a .seg .now) (length (a .out .now)) (was .0) in
-    let own = kept (a .src .now) short (c .before .before .before .before .before .before .before .before .before .before .before .before .before .before .before .block-of .ensures) in
-    let n : length (a .l .slots) ≡ 64 = simp length-map at (st .good .0 .1 .1 .0 .1 .0 .1) in
-    let found = looked (a .l) (a .time) _ _ (c .before .before .before .before .before .before .before .before .before .before .before .before .before .loop .i) (c .before .before .before .before .before .before .before .before .before .before .before .before .before .loop .seen) _ _ n (c .before .before .before .before .before .before .before .before .before .before .before .before .loop-test .left) (c .before .before .before .before .before .before .before .before .before .before .before .before .before .loop .inv .1) (c .before .before .before .before .before .before .before .before .before .before .before .within .ensures) (c .before .before .before .before .before .before .before .before .before .slot-found .ensures) in
-    let v = viewed (a .l) (a .time) (c .before .before .before .before .before .before .before .before .before .before .before .before .before .loop .seen) (c .before .before .before .before .before .before .view-of .ensures) (found .1) in
-    unwritten (a .out .now) (c .refused2 .ensures) (taken-refused (a .l) (a .time) (a .src .now) (a .seg .now) (a .iss) (length (a .out .now)) (was .0) (was .1) own (found .0) v (c .before .before .before .before .before .kind-of .ensures)
-    (sym (c .before .before .before .before .check-kind .ensures) ∙ c .before .before .why2 .given .1))
+    let on = c .before .before .before .before in
+    let a = start on .args in
+    unwritten (a .out .now) (c .refused2 .ensures) (taken-refused (a .l) (a .time) (a .src .now) (a .seg .now) (a .iss) (length (a .out .now)) (read (named on) .0) (read (named on) .1) (block-is (named on)) (found on .0) (view-is on) (kind on .kind-of .ensures)
+    (sym (on .check-kind .ensures) ∙ c .before .before .why2 .given .1))
 
 enum-told : tie.Need-enum-told Inv-loop μ-loop
 enum-told c = search needs
 
+cast-end : tie.Need-cast-end Inv-loop μ-loop
+cast-end c = search needs
+
+add-end : tie.Need-add-end Inv-loop μ-loop
+add-end c = omega (arith, on-time (named (judged (c .before))))
+
 act-requires : tie.Need-act-requires Inv-loop μ-loop
-act-requires c κs =
-    let a = c .before .before .before .before .before .before .before .before .before .before .before .before .before .before .before .before .before .before .before .before .before .before .args in
-    let was = was-read _ _ (sym (c .before .before .before .before .before .before .before .before .before .before .before .before .before .before .before .before .before .receive .ensures) ∙ c .before .before .before .before .before .before .before .before .before .before .before .before .before .before .before .h .given .1) in
-    time-most (a .l .clock) (a .time) (wired-timely (a .l .home) (isUntimely (a .l .clock) (a .time)) (a .src .now) (a .seg .now) (length (a .out .now)) (was .0))
+act-requires c κs = search needs
 
 place-of-requires : tie.Need-place-of-requires Inv-loop μ-loop
 place-of-requires c κs = search needs
 
 mul-changed : tie.Need-mul-changed Inv-loop μ-loop
-mul-changed c =
-    let st = c .before .before .before .before .before .before .before .before .before .before .before .before .before .before .before .before .before .before .before .before .before .before .before .before .before .before in
-    let a = st .args in
-    let was = was-read _ _ (sym (c .before .before .before .before .before .before .before .before .before .before .before .before .before .before .before .before .before .before .before .before .before .receive .ensures) ∙ c .before .before .before .before .before .before .before .before .before .before .before .before .before .before .before .before .before .before .before .h .given .1) in
-    let short = wired-short (a .l .home) (isUntimely (a .l .clock) (a .time)) (a .src .now) (a .seg .now) (length (a .out .now)) (was .0) in
-    let own = kept (a .src .now) short (c .before .before .before .before .before .before .before .before .before .before .before .before .before .before .before .before .before .block-of .ensures) in
-    let n : length (a .l .slots) ≡ 64 = simp length-map at (st .good .0 .1 .1 .0 .1 .0 .1) in
-    let found = looked (a .l) (a .time) _ _ (c .before .before .before .before .before .before .before .before .before .before .before .before .before .before .before .loop .i) (c .before .before .before .before .before .before .before .before .before .before .before .before .before .before .before .loop .seen) _ _ n (c .before .before .before .before .before .before .before .before .before .before .before .before .before .before .loop-test .left) (c .before .before .before .before .before .before .before .before .before .before .before .before .before .before .before .loop .inv .1) (c .before .before .before .before .before .before .before .before .before .before .before .before .before .within .ensures) (c .before .before .before .before .before .before .before .before .before .before .before .slot-found .ensures) in
-    let v = viewed (a .l) (a .time) (c .before .before .before .before .before .before .before .before .before .before .before .before .before .before .before .loop .seen) (c .before .before .before .before .before .before .before .before .view-of .ensures) (found .1) in
-    let second = sym (c .before .before .before .before .before .before .check-kind .ensures) ∙ c .before .before .before .before .enum-told .given .1 in
-    omega (
-      arith,
-      taken-within (a .l) (a .time) (a .src .now) (a .seg .now) (a .iss) (length (a .out .now)) (was .0) (was .1) own (found .0) v (c .before .before .before .before .before .before .before .kind-of .ensures)
-          n second (c .before .before .before .act .result) (c .before .before .before .act .ensures) (c .place-of .ensures),
-    )
+mul-changed c = omega (arith, within c)
 
 element-set-from-changed : tie.Need-element-set-from-changed Inv-loop μ-loop
-element-set-from-changed c =
-    let st = c .before .before .before .before .before .before .before .before .before .before .before .before .before .before .before .before .before .before .before .before .before .before .before .before .before .before in
-    let a = st .args in
-    let was = was-read _ _ (sym (c .before .before .before .before .before .before .before .before .before .before .before .before .before .before .before .before .before .before .before .before .before .receive .ensures) ∙ c .before .before .before .before .before .before .before .before .before .before .before .before .before .before .before .before .before .before .before .h .given .1) in
-    let short = wired-short (a .l .home) (isUntimely (a .l .clock) (a .time)) (a .src .now) (a .seg .now) (length (a .out .now)) (was .0) in
-    let own = kept (a .src .now) short (c .before .before .before .before .before .before .before .before .before .before .before .before .before .before .before .before .before .block-of .ensures) in
-    let n : length (a .l .slots) ≡ 64 = simp length-map at (st .good .0 .1 .1 .0 .1 .0 .1) in
-    let found = looked (a .l) (a .time) _ _ (c .before .before .before .before .before .before .before .before .before .before .before .before .before .before .before .loop .i) (c .before .before .before .before .before .before .before .before .before .before .before .before .before .before .before .loop .seen) _ _ n (c .before .before .before .before .before .before .before .before .before .before .before .before .before .before .loop-test .left) (c .before .before .before .before .before .before .before .before .before .before .before .before .before .before .before .loop .inv .1) (c .before .before .before .before .before .before .before .before .before .before .before .before .before .within .ensures) (c .before .before .before .before .before .before .before .before .before .before .before .slot-found .ensures) in
-    let v = viewed (a .l) (a .time) (c .before .before .before .before .before .before .before .before .before .before .before .before .before .before .before .loop .seen) (c .before .before .before .before .before .before .before .before .view-of .ensures) (found .1) in
-    let second = sym (c .before .before .before .before .before .before .check-kind .ensures) ∙ c .before .before .before .before .enum-told .given .1 in
-    omega (
-      arith,
-      taken-within (a .l) (a .time) (a .src .now) (a .seg .now) (a .iss) (length (a .out .now)) (was .0) (was .1) own (found .0) v (c .before .before .before .before .before .before .before .kind-of .ensures)
-          n second (c .before .before .before .act .result) (c .before .before .before .act .ensures) (c .place-of .ensures),
-    )
+element-set-from-changed c = omega (arith, within c)
 
 is-answered-requires : tie.Need-is-answered-requires Inv-loop μ-loop
 is-answered-requires c κs = search needs
 
 returns-3 : tie.Need-returns-3 Inv-loop μ-loop
 returns-3 c =
-    let st = c .before .before .before .before .before .before .before .before .before .before .before .before .before .before .before .before .before .before .before .before .before .before .before .before .before .before .before .before in
-    let a = st .args in
-    let was = was-read _ _ (sym (c .before .before .before .before .before .before .before .before .before .before .before .before .before .before .before .before .before .before .before .before .before .before .before .receive .ensures) ∙ c .before .before .before .before .before .before .before .before .before .before .before .before .before .before .before .before .before .before .before .before .before .h .given .1) in
-    let short = wired-short (a .l .home) (isUntimely (a .l .clock) (a .time)) (a .src .now) (a .seg .now) (length (a .out .now)) (was .0) in
-    let own = kept (a .src .now) short (c .before .before .before .before .before .before .before .before .before .before .before .before .before .before .before .before .before .before .before .block-of .ensures) in
-    let n : length (a .l .slots) ≡ 64 = simp length-map at (st .good .0 .1 .1 .0 .1 .0 .1) in
-    let found = looked (a .l) (a .time) _ _ (c .before .before .before .before .before .before .before .before .before .before .before .before .before .before .before .before .before .loop .i) (c .before .before .before .before .before .before .before .before .before .before .before .before .before .before .before .before .before .loop .seen) _ _ n (c .before .before .before .before .before .before .before .before .before .before .before .before .before .before .before .before .loop-test .left) (c .before .before .before .before .before .before .before .before .before .before .before .before .before .before .before .before .before .loop .inv .1) (c .before .before .before .before .before .before .before .before .before .before .before .before .before .before .before .within .ensures) (c .before .before .before .before .before .before .before .before .before .before .before .before .before .slot-found .ensures) in
-    let v = viewed (a .l) (a .time) (c .before .before .before .before .before .before .before .before .before .before .before .before .before .before .before .before .before .loop .seen) (c .before .before .before .before .before .before .before .before .before .before .view-of .ensures) (found .1) in
-    let second = sym (c .before .before .before .before .before .before .before .before .check-kind .ensures) ∙ c .before .before .before .before .before .before .enum-told .given .1 in
-    left-alone (a .out .now) (taken-unanswered (a .l) (a .time) (a .src .now) (a .seg .now) (a .iss) (length (a .out .now)) (was .0) (was .1) own (found .0) v (c .before .before .before .before .before .before .before .before .before .kind-of .ensures)
-    n second (c .before .before .before .before .before .act .result) (c .before .before .before .before .before .act .ensures) (c .before .before .place-of .ensures)
-    (sym (c .before .is-answered .ensures) ∙ not-true _ (c .if1 .taken)))
+    let answered = c .before in
+    let p = answered .before in
+    let n = named (on p) in
+    let a = start (on p) .args in
+    left-alone (a .out .now) (taken-unanswered (a .l) (a .time) (a .src .now) (a .seg .now) (a .iss) (length (a .out .now)) (read n .0) (read n .1) (block-is n) (found (on p) .0) (view-is (on p)) (kind (on p) .kind-of .ensures)
+    (full n) (clear (told p)) (end-is (on p)) (acted p .act .result) (acted p .act .ensures) (p .place-of .ensures)
+    (sym (answered .is-answered .ensures) ∙ not-true _ (c .if1 .taken)))
 
 write-from-requires : tie.Need-write-from-requires Inv-loop μ-loop
 write-from-requires c κs = search needs
@@ -184,18 +250,14 @@ same-length c = search needs
 
 returns-4 : tie.Need-returns-4 Inv-loop μ-loop
 returns-4 c =
-    let st = c .before .before .before .before .before .before .before .before .before .before .before .before .before .before .before .before .before .before .before .before .before .before .before .before .before .before .before .before .before .before .before .before in
-    let a = st .args in
-    let was = was-read _ _ (sym (c .before .before .before .before .before .before .before .before .before .before .before .before .before .before .before .before .before .before .before .before .before .before .before .before .before .before .before .receive .ensures) ∙ c .before .before .before .before .before .before .before .before .before .before .before .before .before .before .before .before .before .before .before .before .before .before .before .before .before .h .given .1) in
-    let short = wired-short (a .l .home) (isUntimely (a .l .clock) (a .time)) (a .src .now) (a .seg .now) (length (a .out .now)) (was .0) in
-    let own = kept (a .src .now) short (c .before .before .before .before .before .before .before .before .before .before .before .before .before .before .before .before .before .before .before .before .before .before .before .block-of .ensures) in
-    let n : length (a .l .slots) ≡ 64 = simp length-map at (st .good .0 .1 .1 .0 .1 .0 .1) in
-    let found = looked (a .l) (a .time) _ _ (c .before .before .before .before .before .before .before .before .before .before .before .before .before .before .before .before .before .before .before .before .before .loop .i) (c .before .before .before .before .before .before .before .before .before .before .before .before .before .before .before .before .before .before .before .before .before .loop .seen) _ _ n (c .before .before .before .before .before .before .before .before .before .before .before .before .before .before .before .before .before .before .before .before .loop-test .left) (c .before .before .before .before .before .before .before .before .before .before .before .before .before .before .before .before .before .before .before .before .before .loop .inv .1) (c .before .before .before .before .before .before .before .before .before .before .before .before .before .before .before .before .before .before .before .within .ensures) (c .before .before .before .before .before .before .before .before .before .before .before .before .before .before .before .before .before .slot-found .ensures) in
-    let v = viewed (a .l) (a .time) (c .before .before .before .before .before .before .before .before .before .before .before .before .before .before .before .before .before .before .before .before .before .loop .seen) (c .before .before .before .before .before .before .before .before .before .before .before .before .before .before .view-of .ensures) (found .1) in
-    let second = sym (c .before .before .before .before .before .before .before .before .before .before .before .before .check-kind .ensures) ∙ c .before .before .before .before .before .before .before .before .before .before .enum-told .given .1 in
-    written-over (a .out .now) (taken-answered (a .l) (a .time) (a .src .now) (a .seg .now) (a .iss) (length (a .out .now)) (was .0) (was .1) own (found .0) v (c .before .before .before .before .before .before .before .before .before .before .before .before .before .kind-of .ensures)
-    n second (c .before .before .before .before .before .before .before .before .before .act .result) (c .before .before .before .before .before .before .before .before .before .act .ensures) (c .before .before .before .before .before .before .place-of .ensures)
-    (sym (c .before .before .before .before .before .is-answered .ensures) ∙ not-false _ (c .before .before .before .before .if1 .left))) (c .before .before .write-from .ensures)
+    let wrote = c .before .before in
+    let answered = wrote .before .before .before in
+    let p = answered .before in
+    let n = named (on p) in
+    let a = start (on p) .args in
+    written-over (a .out .now) (taken-answered (a .l) (a .time) (a .src .now) (a .seg .now) (a .iss) (length (a .out .now)) (read n .0) (read n .1) (block-is n) (found (on p) .0) (view-is (on p)) (kind (on p) .kind-of .ensures)
+    (full n) (clear (told p)) (end-is (on p)) (acted p .act .result) (acted p .act .ensures) (p .place-of .ensures)
+    (sym (answered .is-answered .ensures) ∙ not-false _ (wrote .before .before .if1 .left))) (wrote .write-from .ensures)
 
 pub segment-spec : {M : Type 1} → statement M
 segment-spec =
@@ -228,6 +290,8 @@ segment-spec =
     refused-requires-2
     returns-2
     enum-told
+    cast-end
+    add-end
     act-requires
     place-of-requires
     mul-changed

@@ -4,7 +4,7 @@ use Prim.Native.Nat.{ℕ}
 use mathlib.Core.Path.{_≡_}
 use mathlib.Core.List.{List, [], _∷_, _++_, append-assoc}
 use lib.ListN.{length}
-use Rattle.listener.specs.Call.{numberOfEvent, acceptedOf, kindOfEvent, verdictOf}
+use Rattle.protocol.specs.Call.{numberOfEvent, acceptedOf, kindOfEvent, verdictOf}
 use Rattle.text.specs.Number.{decimal}
 use Rattle.text.specs.ByteString.{hexWord}
 use Rattle.text.specs.Put.{field, lastField, fields, restWord}

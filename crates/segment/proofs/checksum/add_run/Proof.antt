@@ -1,7 +1,7 @@
 -- `segment::checksum::add_run` meets its contract.
 -- Assumes nothing.
 use mathlib.Core.Path.{_∙_}
-use Rattle.segment.proofs.ByteLists.{bytes-of}
+use Rattle.lists.proofs.ByteLists.{bytes-of}
 use Rattle.segment.proofs.Folding.{run-sum}
 use borrow.Author.Needs.{needs}
 use Rattle.segment.proofs.checksum.add_run.Statement.{statement}

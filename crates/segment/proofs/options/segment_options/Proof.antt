@@ -3,7 +3,6 @@
 use mathlib.Core.Path.{sym, _∙_}
 use Rattle.segment.specs.Options.{optionsOf}
 use borrow.Author.Needs.{needs}
-use mathlib.Core.Path.{sym, _∙_}
 use Rattle.segment.proofs.options.segment_options.Statement.{statement}
 use Rattle.segment.proofs.options.segment_options.Tie as tie
 

@@ -4,7 +4,7 @@ use native.Mathlib.Omega.{arith}
 use Prim.Native.Nat.{ℕ, _+_, _≤_}
 use mathlib.Core.Path.{ap}
 use lib.ListN.{length}
-use Rattle.segment.proofs.Writes.{copied}
+use Rattle.lists.proofs.Lent.{copied}
 use borrow.Author.Needs.{needs}
 use Rattle.segment.proofs.write.append.Statement.{statement}
 use Rattle.segment.proofs.write.append.Tie as tie

@@ -7,7 +7,7 @@ use lib.ListN.{length, getD}
 use borrow.Author.Needs.{needs}
 use borrow.Author.Tests.{lt-ltb, le-ltb}
 use Rattle.text.specs.ByteString.{isHexDigit, nibble}
-use Rattle.text.proofs.Places.{Passed, passed-on, passed-not, passed-all}
+use Rattle.lists.proofs.Places.{Passed, passed-on, passed-not, passed-all}
 use Rattle.text.proofs.bytestring.is_hex.Statement.{statement}
 use Rattle.text.proofs.bytestring.is_hex.Tie as tie
 
@@ -32,7 +32,7 @@ returns c =
     let s = c .before .before .before .before .before .before .args .word .now in
     let h : q .i < length s = omega arith in
     let k : 16 ≤ nibble (getD s (q .i) 0) = omega arith in
-    passed-not isHexDigit s (q .i) h (le-ltb _ _ k) (q .inv .1)
+    passed-not isHexDigit s (q .i) 0 h (le-ltb _ _ k) (q .inv .1)
 
 add-i : tie.Need-add-i Inv-loop μ-loop
 add-i c = search needs
@@ -46,7 +46,7 @@ loop-again c =
     let s = c .before .before .before .before .before .before .args .word .now in
     let h : q .i < length s = omega arith in
     let k : nibble (getD s (q .i) 0) < 16 = omega arith in
-    (search needs, passed-on isHexDigit s (q .i) h (lt-ltb _ _ k) (q .inv .1))
+    (search needs, passed-on isHexDigit s (q .i) 0 h (lt-ltb _ _ k) (q .inv .1))
 
 returns-2 : tie.Need-returns-2 Inv-loop μ-loop
 returns-2 c =

@@ -1,6 +1,5 @@
 -- `text::line::gather` meets its contract: what was found is what the definition says.
 -- Assumes nothing.
-use mathlib.Core.Path.{_≡_}
 use native.Mathlib.Omega.{arith}
 use Rattle.text.proofs.Lines.{part-is, cut-off, ended, within}
 use borrow.Author.Needs.{needs}

@@ -7,7 +7,7 @@ use lib.ListN.{length, drop, getD}
 use borrow.Author.Needs.{needs}
 use Rattle.text.specs.declared.number.Number.the-variants.{Value}
 use Rattle.text.specs.Number.{isDigit, digit, valueFrom}
-use Rattle.text.proofs.Places.{Passed, passed-on, passed-not, passed-all}
+use Rattle.lists.proofs.Places.{Passed, passed-on, passed-not, passed-all}
 use Rattle.text.proofs.Numbers.{is-digit, no-digit, value-grows, one-digit, no-more, number-empty, number-other, number-large, number-read}
 use Rattle.text.proofs.number.read_number.Statement.{statement}
 use Rattle.text.proofs.number.read_number.Tie as tie
@@ -37,7 +37,7 @@ returns-2 c =
     let s = g .word .now in
     let h : q .i < length s = omega arith in
     let k : 9 < digit (getD s (q .i) 0) = omega arith in
-    number-other s (g .most) (passed-not isDigit s (q .i) h (no-digit _ k) (q .inv .1 .1 .1 .0))
+    number-other s (g .most) (passed-not isDigit s (q .i) 0 h (no-digit _ k) (q .inv .1 .1 .1 .0))
 
 returns-3 : tie.Need-returns-3 Inv-loop μ-loop
 returns-3 c =
@@ -86,7 +86,7 @@ loop-again c =
         (
           omega arith,
           (
-            passed-on isDigit s (q .i) h (d .0) (q .inv .1 .1 .1 .0),
+            passed-on isDigit s (q .i) 0 h (d .0) (q .inv .1 .1 .1 .0),
             ap (λ (n : ℕ). valueFrom n (drop (q .i + 1) s)) r ∙ sym (one-digit (q .value) s (q .i) h) ∙ q .inv .1 .1 .1 .1,
           ),
         ),

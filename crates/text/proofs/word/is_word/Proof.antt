@@ -6,8 +6,9 @@ use mathlib.Core.Bool.{true, false}
 use native.Mathlib.Omega.{arith}
 use lib.ListN.{length, drop}
 use borrow.Author.Needs.{needs}
-use Rattle.endpoint.specs.Lists.{sameBytes}
-use Rattle.endpoint.proofs.Comparing.{unlike, differ, agree, at-end}
+use Rattle.lists.specs.Bytes.{sameBytes}
+use Rattle.lists.proofs.SameBytes.{unlike}
+use Rattle.lists.proofs.Comparing.{differ, agree, at-end}
 use Rattle.text.proofs.word.is_word.Statement.{statement}
 use Rattle.text.proofs.word.is_word.Tie as tie
 

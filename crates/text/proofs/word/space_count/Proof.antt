@@ -2,12 +2,13 @@
 -- Assumes nothing.
 use Prim.Native.Nat.{_-_, _≤_, _<_}
 use mathlib.Core.Logic.{⊎-elim}
+use mathlib.Core.Bool.{true, false}
 use native.Mathlib.Omega.{arith}
 use lib.ListN.{length}
 use borrow.Author.Needs.{needs}
 use borrow.Author.Tests.{eq-eqb, ne-eqb}
 use Rattle.text.specs.Word.{isSpace}
-use Rattle.text.proofs.Places.{Counted, counted-one, counted-none, counted-all}
+use Rattle.lists.proofs.Places.{Counted, counted-on, counted-all}
 use Rattle.text.proofs.word.space_count.Statement.{statement}
 use Rattle.text.proofs.word.space_count.Tie as tie
 
@@ -37,8 +38,8 @@ loop-again c =
     let q = c .before .before .before .loop in
     let s = c .before .before .before .before .args .line .now in
     let h : q .i < length s = omega arith in
-    ⊎-elim (λ w. (omega arith, (omega arith, rw (w .1) (counted-one isSpace s (q .i) h (q .n) (eq-eqb _ _ (w .0 .taken)) (q .inv .1 .1)))))
-    (λ w. (omega arith, (omega arith, rw (w .1) (counted-none isSpace s (q .i) h (q .n) (ne-eqb _ _ (w .0 .left)) (q .inv .1 .1))))) (c .if1 .came)
+    ⊎-elim (λ w. (omega arith, (omega arith, rw (w .1) (counted-on isSpace s (q .i) 0 h (q .n) true (eq-eqb _ _ (w .0 .taken)) (q .inv .1 .1)))))
+    (λ w. (omega arith, (omega arith, rw (w .1) (omega (arith, counted-on isSpace s (q .i) 0 h (q .n) false (ne-eqb _ _ (w .0 .left)) (q .inv .1 .1)))))) (c .if1 .came)
 
 returns : tie.Need-returns Inv-loop μ-loop
 returns c =

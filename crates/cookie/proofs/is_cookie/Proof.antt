@@ -1,0 +1,74 @@
+-- `cookie::is_cookie` meets its contract: the lengths first, then every byte.
+-- Assumes nothing.
+use Prim.Native.Nat.{_-_, _≤_, _<_}
+use mathlib.Core.Path.{_≡_, refl, sym, _∙_}
+use mathlib.Core.Bool.{_&&_}
+use mathlib.Core.Logic.{⊎-elim}
+use native.Mathlib.Omega.{arith}
+use lib.ListN.{length, drop}
+use Rattle.lists.specs.Bytes.{sameBytes}
+use Rattle.lists.proofs.SameBytes.{unlike}
+use Rattle.lists.proofs.Comparing.{differ, agree, at-end}
+use borrow.Author.Needs.{needs}
+use Rattle.cookie.proofs.is_cookie.Statement.{statement}
+use Rattle.cookie.proofs.is_cookie.Tie as tie
+
+abbrev Inv-loop : tie.InvT-loop
+Inv-loop given cookie same₀ i₀ same i = (i ≤ 8) × (same && sameBytes (drop i given) (drop i cookie) ≡ sameBytes given cookie)
+
+abbrev μ-loop : tie.MeasureT-loop
+μ-loop given cookie same₀ i₀ same i = 8 - i
+
+returns : tie.Need-returns Inv-loop μ-loop
+returns c =
+    let h : length (c .before .args .t2) ≡ 8 = search needs in
+    sym (unlike _ _ (λ e. c .if1 .taken (e ∙ h)))
+
+loop-holds : tie.Need-loop-holds Inv-loop μ-loop
+loop-holds c = (omega arith, refl)
+
+shared-slice-read-if2 : tie.Need-shared-slice-read-if2 Inv-loop μ-loop
+shared-slice-read-if2 c = omega (arith, c .before .before .before .if1 .left)
+
+array-read-if2 : tie.Need-array-read-if2 Inv-loop μ-loop
+array-read-if2 c = search needs
+
+add-i : tie.Need-add-i Inv-loop μ-loop
+add-i c = search needs
+
+loop-less : tie.Need-loop-less Inv-loop μ-loop
+loop-less c = search needs
+
+loop-again : tie.Need-loop-again Inv-loop μ-loop
+loop-again c =
+    let given = c .before .before .before .before .before .args .given .now in
+    let cookie = c .before .before .before .before .before .args .t2 in
+    let i = c .before .before .before .loop .i in
+    let hg : i < length given = omega (arith, c .before .before .before .before .if1 .left) in
+    let hc : i < length cookie = search needs in
+    let v = c .before .before .before .loop .inv .1 in
+    let was = c .before .before .before .loop .same in
+    ⊎-elim (λ w. (omega arith, differ given cookie i was (sameBytes given cookie) v hg hc (c .if2 .same) (w .1) (w .0 .taken)))
+    (λ w. (omega arith, agree given cookie i was (sameBytes given cookie) v hg hc (c .if2 .same) (w .1) (w .0 .left))) (c .if2 .came)
+
+returns-2 : tie.Need-returns-2 Inv-loop μ-loop
+returns-2 c =
+    let given = c .before .before .before .args .given .now in
+    let cookie = c .before .before .before .args .t2 in
+    let h : length cookie ≡ 8 = search needs in
+    at-end given cookie (c .before .loop .i) _ _ (c .before .loop .inv .1) (omega (arith, c .before .before .if1 .left)) (omega arith)
+
+pub is-cookie-spec : {M : Type 1} → statement M
+is-cookie-spec =
+    tie.close
+    (tie.spec
+    Inv-loop
+    μ-loop
+    returns
+    loop-holds
+    shared-slice-read-if2
+    array-read-if2
+    add-i
+    loop-less
+    loop-again
+    returns-2)

@@ -1,0 +1,2 @@
+-- What the code makes of a cookie that was given.
+pub mod Check

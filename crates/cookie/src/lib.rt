@@ -1,0 +1,99 @@
+// The Fast Open cookie: made, compared, and checked for an opening.
+use cipher::encrypt;
+use protocol::state::Keys;
+use segment::options::FastOpen;
+use segment::options::cookie;
+ghost use mathlib.Core.Path.{_≡_};
+ghost use mathlib.Core.Bool.{true, false, _&&_, not};
+ghost use Rattle.lists.specs.Bytes.{sameBytes};
+ghost use Rattle.protocol.specs.Cookie.{cookieUnder, found, counts, rightUnder, right};
+ghost use Rattle.cookie.specs.Check.{cookieCheck};
+
+// The cookie of an address, by its block, under a key's round keys.
+pub fn make_cookie(round_keys: [u8; 176], b: [u8; 16]) -> [u8; 8]
+    ensures { λ r. ⌜ r ≡ cookieUnder «round_keys» b ⌝ }
+{
+    let c = encrypt(round_keys, b);
+    [c[0], c[1], c[2], c[3], c[4], c[5], c[6], c[7]]
+}
+
+// Whether these bytes are that cookie. Every byte is compared, with no early exit.
+fn is_cookie(given: &[u8], cookie: [u8; 8]) -> bool
+    ensures { λ r. ⌜ r ≡ sameBytes (now (given .entry)) cookie ⌝ }
+{
+    if given.len() != 8 {
+        return false;
+    }
+    let mut same = true;
+    for i in 0..8 {
+        if given[i] != cookie[i] {
+            same = false;
+        }
+    }
+    same
+}
+
+// What is made of an opening's Fast Open option: whether its cookie is right, and whether a fresh one is to go with the answer.
+pub struct OptionCheck {
+    pub right: bool,
+    pub fresh: bool,
+    pub cookie: [u8; 8],
+}
+
+fn checked(right: bool, fresh: bool, cookie: [u8; 8]) -> OptionCheck
+    ensures { λ r. ⌜ r ≡ record { right = right; fresh = fresh; cookie = cookie } ⌝ }
+{
+    OptionCheck {
+        right,
+        fresh,
+        cookie,
+    }
+}
+
+// Checks a cookie that was given: it is right under the present key or, if there is one, under the previous key; any but the present key's
+// gets a fresh one. The second block is computed only where the first did not settle it.
+fn check_cookie(keys: Keys, b: [u8; 16], given: &[u8]) -> OptionCheck
+    ensures { λ r. ⌜ r ≡ cookieCheck keys b (now (given .entry)) ⌝ }
+{
+    let present = keys.present;
+    let new = make_cookie(present, b);
+    if is_cookie(given, new) {
+        return checked(true, false, new);
+    }
+    if !keys.rotated {
+        return checked(false, true, new);
+    }
+    let previous = keys.previous;
+    let old = make_cookie(previous, b);
+    checked(is_cookie(given, old), true, new)
+}
+
+// No option that counts, or no cookies now.
+fn no_option() -> OptionCheck
+    ensures { λ r. ⌜ (r .right ≡ false) × (r .fresh ≡ false) ⌝ }
+{
+    checked(false, false, [0u8; 8])
+}
+
+// What is made of the option that was found in an area. Where cookies do not run, nothing is computed.
+pub fn check_option(run: bool, keys: Keys, b: [u8; 16], area: &[u8], fast: FastOpen) -> OptionCheck
+    ensures { λ r. ⌜ r .right ≡ run && right keys b (found fast (now (area .entry))) ⌝ }
+    ensures { λ r. ⌜ r .fresh ≡ run && (counts (found fast (now (area .entry))) && not (rightUnder (keys .present) b (found fast (now (area .entry))))) ⌝ }
+    ensures { λ r. ⌜ (r .fresh ≡ true → r .cookie ≡ cookieUnder (keys .present) b) ⌝ }
+{
+    if !run {
+        return no_option();
+    }
+    match fast {
+        FastOpen::Absent => no_option(),
+        FastOpen::Request => {
+            let present = keys.present;
+            checked(false, true, make_cookie(present, b))
+        }
+        FastOpen::Cookie { at, len } => check_cookie(
+            keys,
+            b,
+            cookie(area, FastOpen::Cookie { at, len }),
+        ),
+    }
+}

@@ -1,0 +1,13 @@
+-- `decisions::action::cookies_run` meets its contract: by the two tests.
+-- Assumes nothing.
+use Rattle.decisions.proofs.action.cookies_run.Statement.{statement}
+use Rattle.decisions.proofs.action.cookies_run.Tie as tie
+
+returns : tie.Need-returns
+returns c = simp (c .if1 .taken)
+
+returns-2 : tie.Need-returns-2
+returns-2 c = simp (c .if1 .left)
+
+pub cookies-run-spec : {M : Type 1} → statement M
+cookies-run-spec = tie.close (tie.spec returns returns-2)

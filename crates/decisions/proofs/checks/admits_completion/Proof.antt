@@ -1,0 +1,27 @@
+-- `decisions::checks::admits_completion` meets its contract: the window, then the acknowledgement.
+-- Assumes nothing.
+use borrow.Author.Tests.{not-true, not-false}
+use Rattle.decisions.proofs.Tests.{not-completed, completed}
+use borrow.Author.Needs.{needs}
+use Rattle.decisions.proofs.checks.admits_completion.Statement.{statement}
+use Rattle.decisions.proofs.checks.admits_completion.Tie as tie
+
+expected-of-requires : tie.Need-expected-of-requires
+expected-of-requires c κs = search needs
+
+in-window-requires : tie.Need-in-window-requires
+in-window-requires c κs = search needs
+
+returns : tie.Need-returns
+returns c = not-completed _ _ (c .before .before .expected-of .ensures) (c .before .in-window .ensures) (not-true _ (c .if1 .taken))
+
+next-after-requires : tie.Need-next-after-requires
+next-after-requires c κs = search needs
+
+returns-2 : tie.Need-returns-2
+returns-2 c = completed _ _ (c .before .before .before .before .expected-of .ensures) (c .before .before .before .in-window .ensures) (not-false _ (c .before .before .if1 .left)) (c .before .next-after .ensures)
+
+pub admits-completion-spec : {M : Type 1} → statement M
+admits-completion-spec =
+    tie.close
+    (tie.spec expected-of-requires in-window-requires returns next-after-requires returns-2)

@@ -1,0 +1,36 @@
+-- `decisions::checks::check_output` meets its contract: the checks before, then the room.
+-- Assumes nothing.
+use mathlib.Core.Path.{sym, _∙_}
+use Rattle.endpoint.specs.Checks.{isUntimely}
+use Rattle.protocol.proofs.Judging.{output-stopped, output-enough, output-short}
+use borrow.Author.Needs.{needs}
+use Rattle.decisions.proofs.checks.check_output.Statement.{statement}
+use Rattle.decisions.proofs.checks.check_output.Tie as tie
+
+check-name-requires : tie.Need-check-name-requires
+check-name-requires c κs = search needs
+
+enum-known-why : tie.Need-enum-known-why
+enum-known-why c = search needs
+
+enum-told : tie.Need-enum-told
+enum-told c = search needs
+
+returns : tie.Need-returns
+returns c =
+    let a = c .before .before .before .before .before .args in
+    sym (output-stopped (a .home) (isUntimely (a .clock) (a .time)) (a .addr .now) (a .room) (sym (c .before .before .before .check-name .ensures) ∙ c .before .why .given .1))
+
+returns-2 : tie.Need-returns-2
+returns-2 c =
+    let a = c .before .before .before .before .before .args in
+    sym (output-short (a .home) (isUntimely (a .clock) (a .time)) (a .addr .now) (a .room) (sym (c .before .before .before .check-name .ensures) ∙ c .before .enum-told .given .1) (c .if1 .taken))
+
+returns-3 : tie.Need-returns-3
+returns-3 c =
+    let a = c .before .before .before .before .before .args in
+    sym (output-enough (a .home) (isUntimely (a .clock) (a .time)) (a .addr .now) (a .room) (sym (c .before .before .before .check-name .ensures) ∙ c .before .enum-told .given .1) (c .if1 .left))
+
+pub check-output-spec : {M : Type 1} → statement M
+check-output-spec =
+    tie.close (tie.spec check-name-requires enum-known-why enum-told returns returns-2 returns-3)

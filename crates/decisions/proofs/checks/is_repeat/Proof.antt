@@ -1,0 +1,22 @@
+-- `decisions::checks::is_repeat` meets its contract: the status, then the number.
+-- Assumes nothing.
+use mathlib.Core.Path.{sym, _∙_}
+use borrow.Author.Tests.{not-true, not-false}
+use Rattle.protocol.specs.Refusals.{repeats}
+use borrow.Author.Needs.{needs}
+use Rattle.decisions.proofs.checks.is_repeat.Statement.{statement}
+use Rattle.decisions.proofs.checks.is_repeat.Tie as tie
+
+is-waiting-requires : tie.Need-is-waiting-requires
+is-waiting-requires c κs = search needs
+
+returns : tie.Need-returns
+unfolding repeats
+returns c = simp (sym (c .before .is-waiting .ensures) ∙ not-true _ (c .if1 .taken))
+
+returns-2 : tie.Need-returns-2
+unfolding repeats
+returns-2 c = simp (sym (c .before .before .before .is-waiting .ensures) ∙ not-false _ (c .before .before .if1 .left))
+
+pub is-repeat-spec : {M : Type 1} → statement M
+is-repeat-spec = tie.close (tie.spec is-waiting-requires returns returns-2)

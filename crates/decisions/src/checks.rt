@@ -1,0 +1,172 @@
+// The checks of the calls, in document 01's order; 13, 5 and 2 are endpoint's.
+use endpoint::address::size_of;
+use endpoint::checks::check_name;
+use protocol::state::Home;
+use protocol::state::Settings;
+use protocol::state::View;
+use protocol::table::Slot;
+use segment::checksum::is_checksum_right;
+use segment::header::Header;
+use segment::header::Kind;
+use segment::header::Shape;
+use segment::header::read_header;
+use segment::refusal::Check;
+use segment::refusal::Refusal;
+use segment::sequence::in_window;
+use segment::sequence::next_after;
+use table::slot::accepted_with;
+use table::slot::is_free;
+use table::slot::is_waiting;
+ghost use mathlib.Core.Path.{_≡_};
+ghost use mathlib.Core.List.{_++_};
+ghost use Rattle.segment.specs.Refusal.{refusal};
+ghost use Rattle.segment.specs.Header.{fieldsOf};
+ghost use Rattle.endpoint.specs.Checks.{isUntimely, timely, addressed};
+ghost use Rattle.protocol.specs.Refusals.{inRange, repeats, completes, resets, expected, roomy, sequenceChecks, kindChecks, wireChecks};
+ghost use Rattle.decisions.specs.Received.{received};
+
+// 13, 5, 2 and 11: the longest answer has 36 bytes.
+pub fn check_output(home: Home, clock: u64, time: u64, addr: &[u8], room: usize) -> Check
+    ensures { λ r. ⌜ r ≡ refusal (timely (home .started) (isUntimely clock time) ++ addressed (home .family) (now (addr .entry)) ++ roomy room) ⌝ }
+{
+    let family = home.family;
+    match check_name(home.started, family, clock, time, addr) {
+        Check::Refused(why) => Check::Refused(why),
+        Check::Clear => {
+            if room < 36 {
+                Check::Refused(Refusal::Output)
+            } else {
+                Check::Clear
+            }
+        }
+    }
+}
+
+// A segment that passed the checks before its kind, or the refusal.
+pub enum Received {
+    Dropped(Refusal),
+    Read(Header),
+}
+
+// 13, 5, 2, 11, 1, 3 and 4.
+pub fn receive(home: Home, clock: u64, time: u64, src: &[u8], seg: &[u8], room: usize) -> Received
+    ensures { λ r. ⌜ r ≡ received (refusal (wireChecks home (isUntimely clock time) (now (src .entry)) (now (seg .entry)) room)) (fieldsOf (now (seg .entry))) ⌝ }
+{
+    match check_output(home, clock, time, src, room) {
+        Check::Refused(why) => Received::Dropped(why),
+        Check::Clear => match read_header(seg) {
+            Shape::Malformed => Received::Dropped(Refusal::Format),
+            Shape::WellFormed(h) => {
+                let family = home.family;
+                let own = home.own;
+                let n = size_of(family);
+                if !is_checksum_right(src, &own[..n], seg) {
+                    return Received::Dropped(Refusal::Checksum);
+                }
+                if h.dest != home.port {
+                    return Received::Dropped(Refusal::Port);
+                }
+                Received::Read(h)
+            }
+        },
+    }
+}
+
+// Whether an opening repeats the one that the slot was made for.
+fn is_repeat(s: Slot, h: Header) -> bool
+    ensures { λ r. ⌜ r ≡ repeats s h ⌝ }
+{
+    let status = s.status;
+    if !is_waiting(status) {
+        return false;
+    }
+    h.seq == s.irs
+}
+
+// The sequence number that the peer's next segment is to have.
+fn expected_of(s: Slot) -> u32
+    ensures { λ r. ⌜ r ≡ expected s ⌝ }
+{
+    let status = s.status;
+    next_after(s.irs, accepted_with(status))
+}
+
+// Whether a completion's numbers are admitted, for this slot.
+fn admits_completion(s: Slot, h: Header) -> bool
+    ensures { λ r. ⌜ r ≡ completes s h ⌝ }
+{
+    if !in_window(expected_of(s), h.seq) {
+        return false;
+    }
+    h.ack == next_after(s.iss, 0)
+}
+
+// Whether a reset's number is admitted, for this slot.
+fn admits_reset(s: Slot, h: Header) -> bool
+    ensures { λ r. ⌜ r ≡ resets s h ⌝ }
+{
+    h.seq == expected_of(s)
+}
+
+// 7 and 8.
+fn check_syn(v: View, h: Header) -> Check
+    ensures { λ r. ⌜ r ≡ refusal (kindChecks v h Kind.Syn) ⌝ }
+{
+    let slot = v.slot;
+    let status = slot.status;
+    if is_free(status) {
+        if v.vacant {
+            return Check::Clear;
+        }
+        return Check::Refused(Refusal::TableFull);
+    }
+    if is_repeat(slot, h) {
+        return Check::Clear;
+    }
+    Check::Refused(Refusal::NameInUse)
+}
+
+// 9 and 10, where `admitted` is whether the numbers are.
+fn check_sequence(s: Slot, admitted: bool) -> Check
+    ensures { λ r. ⌜ r ≡ refusal (sequenceChecks s admitted) ⌝ }
+{
+    let status = s.status;
+    if !is_waiting(status) {
+        return Check::Refused(Refusal::NoConnection);
+    }
+    if !admitted {
+        return Check::Refused(Refusal::Sequence);
+    }
+    Check::Clear
+}
+
+// 6, 7, 9, 8 and 10.
+pub fn check_kind(v: View, h: Header, kind: Kind) -> Check
+    ensures { λ r. ⌜ r ≡ refusal (kindChecks v h kind) ⌝ }
+{
+    let slot = v.slot;
+    match kind {
+        Kind::Syn => check_syn(v, h),
+        Kind::Ack => check_sequence(slot, admits_completion(slot, h)),
+        Kind::Rst => check_sequence(slot, admits_reset(slot, h)),
+        Kind::Other => Check::Refused(Refusal::Flags),
+    }
+}
+
+pub fn is_in_range(g: Settings) -> bool
+    ensures { λ r. ⌜ r ≡ inRange g ⌝ }
+{
+    if 64 < g.limit {
+        return false;
+    }
+    if 1460 < g.room {
+        return false;
+    }
+    if 65535 < g.hold {
+        return false;
+    }
+    if g.mss < 536 {
+        return false;
+    }
+    g.mss <= 1460
+}

@@ -1,0 +1,85 @@
+-- What the answer to a done segment says: its kind, and how many bytes were written. Assumes nothing.
+use Prim.Native.Nat.{ℕ}
+use mathlib.Core.Path.{_≡_, refl}
+use mathlib.Core.Bool.{Bool, true, false}
+use mathlib.Core.List.{List}
+use native.Mathlib.Omega.{arith}
+use lib.ListN.{length, take}
+use lib.Seq.{length-take-le}
+use borrow.Author.Tests.{ltb-false, eqb-true, not-false}
+use Rattle.segment.specs.Header.{fieldsOf, kindOf}
+use Rattle.segment.specs.Checksum.{oneFamily}
+use Rattle.segment.specs.declared.refusal.Check.the-variants.{Clear}
+use Rattle.segment.specs.declared.header.Kind.{Kind}
+use Rattle.segment.specs.declared.header.Kind.the-variants.{Syn, Rst, Ack, Other}
+use Rattle.segment.specs.Write.{answerLength}
+use Rattle.segment.proofs.Exchange.{answer-bytes}
+use Rattle.segment.proofs.Family.{family-back, right-family}
+use Rattle.endpoint.specs.Address.{size, isAddress, block}
+use Rattle.endpoint.specs.declared.address.Family.{Family}
+use Rattle.endpoint.specs.declared.address.Family.the-variants.{V4, V6}
+use Rattle.endpoint.proofs.Clear.{Passed, every-check}
+use Rattle.protocol.specs.Cookie.{cookieUnder}
+use Rattle.protocol.specs.Call.{Call, segment, resend, sender, opening, wordOf, kindOfEvent}
+use Rattle.protocol.specs.View.{ownAddress, view, viewOf}
+use Rattle.protocol.specs.Refusals.{checks, judged}
+use Rattle.protocol.specs.Step.{segmentEvent, isAnswered, freshWith, answerFrom, answerTo, heldUntil, slotAfter, step}
+use Rattle.protocol.specs.declared.table.Slot.{Slot}
+use Rattle.protocol.specs.declared.state.View.{View}
+use Rattle.protocol.specs.declared.state.Listener.{Listener}
+use Rattle.protocol.proofs.Cookies.{cookie-eight}
+use Rattle.protocol.proofs.Events.{opening-event}
+use Rattle.protocol.proofs.Judging.{step-done}
+
+module _ (v : View) (b seg : List ℕ) where
+  kind-is : (k : Kind) → kindOfEvent (segmentEvent v b seg k) ≡ wordOf k
+  kind-is Syn = opening-event (λ e. kindOfEvent e ≡ opening) (λ n. refl) refl refl v b seg
+  kind-is Ack = refl
+  kind-is Rst = refl
+  kind-is Other = refl
+
+all-passed : (l : Listener) (c : Call) → judged l c ≡ Clear → Passed (checks (viewOf l c) c)
+unfolding judged
+all-passed l c e = every-check (checks (viewOf l c) c) e
+
+module _ (l : Listener) (t : ℕ) (src seg : List ℕ) (iss room : ℕ) (clear : judged l (segment t src seg iss room) ≡ Clear) where
+  abbrev this : Call
+  this = segment t src seg iss room
+
+  abbrev v : View
+  v = view l t (sender src seg)
+
+  -- a done segment's kind is told
+  pub kind-said : kindOfEvent (step l this .event) ≡ wordOf (kindOf (fieldsOf seg .flags))
+  kind-said = rw (step-done l this clear) (kind-is v (block src) seg (kindOf (fieldsOf seg .flags)))
+
+  answer-size : (s : Slot) (fresh : Bool) → length (answerTo v src s fresh room) ≡ answerLength fresh
+  answer-size s fresh =
+      let p = all-passed l this clear in
+      let own = ownAddress (l .home) in
+      answer-bytes own src (answerFrom (l .home) (l .settings .mss) s fresh) (cookieUnder (l .keys .present) (block src)) room
+      (family-back src own (right-family src own seg (not-false _ (p .1 .1 .1 .1 .1 .0)))) (cookie-eight (l .keys .present) (block src)) (ltb-false room 36 (p .1 .1 .1 .0))
+
+  -- a done opening is answered: 36 bytes with a fresh cookie, 24 without
+  pub opening-written : kindOf (fieldsOf seg .flags) ≡ Syn → step l this .written ≡ answerLength (freshWith v (block src) seg (step l this .event))
+  opening-written k =
+      let e = segmentEvent v (block src) seg Syn in
+      rw (step-done l this clear, k, opening-event (λ x. isAnswered x ≡ true) (λ n. refl) refl refl v (block src) seg) (answer-size (slotAfter v (heldUntil v t) (block src) (fieldsOf seg) iss e) (freshWith v (block src) seg e))
+
+-- a done resend writes 24 bytes
+own-family : (f : Family) (own a : List ℕ) → length own ≡ 16 → isAddress f a ≡ true → oneFamily (take (size f) own) a ≡ true
+own-family V4 own a h e =
+    let n = eqb-true (length a) 4 e in
+    rw (n, length-take-le 4 own (omega arith))
+own-family V6 own a h e =
+    let n = eqb-true (length a) 16 e in
+    rw (n, length-take-le 16 own (omega arith))
+
+pub resend-written : (l : Listener) (t : ℕ) (a : List ℕ) (p room : ℕ) → length (l .home .own) ≡ 16 → judged l (resend t a p room) ≡ Clear
+    → step l (resend t a p room) .written ≡ 24
+resend-written l t a p room h clear =
+    let q = all-passed l (resend t a p room) clear in
+    let s = view l t (record { address = a; port = p }) .slot in
+    rw (step-done l (resend t a p room) clear)
+    (answer-bytes (ownAddress (l .home)) a (answerFrom (l .home) (l .settings .mss) s false) (cookieUnder (l .keys .present) (block a)) room
+    (own-family (l .home .family) (l .home .own) a h (not-false _ (q .1 .1 .0))) (cookie-eight (l .keys .present) (block a)) (ltb-false room 36 (q .1 .1 .1 .0)))

@@ -1,0 +1,263 @@
+-- What each call answers, refused and done, from what its checks come to. Assumes nothing.
+use Prim.Native.Nat.{ℕ, _≤_}
+use mathlib.Core.Path.{_≡_, refl, sym, ap, _∙_}
+use mathlib.Core.Bool.{Bool, true, false, cond, not, false≢true}
+use mathlib.Core.List.{List, [], _++_}
+use lib.Dec.{leb}
+use lib.ListN.{length}
+use borrow.Author.Tests.{eq-eqb, ne-eqb, leb-true, not-false}
+use Rattle.segment.specs.Refusal.{refusal}
+use Rattle.segment.specs.Header.{fieldsOf, kindOf}
+use Rattle.segment.specs.Write.{answerBytes}
+use Rattle.lists.specs.Bytes.{overwrite}
+use Rattle.segment.specs.declared.refusal.Refusal.{Refusal}
+use Rattle.segment.specs.declared.refusal.Refusal.the-variants.{NoConnection, Range}
+use Rattle.segment.specs.declared.refusal.Check.{Check}
+use Rattle.segment.specs.declared.refusal.Check.the-variants.{Clear, Refused}
+use Rattle.segment.specs.declared.header.Kind.{Kind}
+use Rattle.lists.proofs.Bools.{and-true}
+use Rattle.segment.proofs.Exchange.{answer-without}
+use Rattle.endpoint.specs.Address.{Peer, block}
+use Rattle.endpoint.specs.Checks.{isUntimely, timely, addressed}
+use Rattle.endpoint.proofs.Blocks.{family-short}
+use Rattle.endpoint.proofs.Clear.{every-check}
+use Rattle.endpoint.proofs.Chain.{stopped, passed}
+use Rattle.protocol.specs.Cookie.{cookieUnder}
+use Rattle.protocol.specs.Table.{isWaiting, scanOf}
+use Rattle.protocol.specs.Call.{Call, segment, settings, key, abandon, resend, close, sender}
+use Rattle.protocol.specs.View.{ownAddress, view}
+use Rattle.protocol.specs.Refusals.{inRange, isKey, isReleasable, releaseOf, roomy, kindChecks, wireChecks, judged}
+use Rattle.protocol.specs.Step.{segmentEvent, heldUntil, slotAfter, freshWith, answerFrom, answerTo, isAnswered, segmentOutput, segmentAfter, moved, freed, inForce, withKey, after, step, outputOf}
+use Rattle.protocol.specs.declared.state.Settings.{Settings}
+use Rattle.protocol.specs.declared.state.Home.{Home}
+use Rattle.protocol.specs.declared.state.View.{View}
+use Rattle.protocol.specs.declared.state.Listener.{Listener}
+use Rattle.protocol.specs.declared.answer.Event.{Event}
+use Rattle.protocol.specs.declared.answer.Event.the-variants as events
+use Rattle.protocol.specs.declared.answer.Outcome.{Outcome}
+use Rattle.protocol.specs.declared.table.Status.the-variants as statuses
+use Rattle.protocol.specs.declared.table.Slot.{Slot}
+use Rattle.protocol.specs.declared.table.Scan.{Scan}
+use Rattle.protocol.proofs.Judging.{judged-settings, judged-key, judged-release, judged-resend, judged-segment, step-refused, step-done, output-refused, output-done}
+
+abbrev pub refusedWith : Listener → Refusal → Outcome
+refusedWith l r = record { listener = l; event = events.Refused r; written = 0 }
+
+abbrev pub doneWith : Listener → Outcome
+doneWith l = record { listener = l; event = events.Done; written = 0 }
+
+-- an answer without a fresh cookie is the same whatever cookie is at hand, and so is one whose cookie is the fresh one
+pub any-cookie : (own a : List ℕ) (v : View) (s : Slot) (fresh : Bool) (c d : List ℕ) (room : ℕ) → (fresh ≡ true → c ≡ d)
+    → answerBytes own a (answerFrom (v .home) (v .settings .mss) s fresh) c room ≡ answerBytes own a (answerFrom (v .home) (v .settings .mss) s fresh) d room
+any-cookie own a v s true c d room e = ap (λ (x : List ℕ). answerBytes own a (answerFrom (v .home) (v .settings .mss) s true) x room) (e refl)
+any-cookie own a v s false c d room e = answer-without own a (answerFrom (v .home) (v .settings .mss) s false) c d room refl
+
+module _ (l : Listener) (t : ℕ) where
+  abbrev Timely : Check
+  Timely = refusal (timely (l .home .started) (isUntimely (l .clock) t))
+
+  -- Settings
+
+  module _ (g : Settings) where
+    pub settings-stopped : {r : Refusal} → Timely ≡ Refused r → step l (settings t g) ≡ refusedWith l r
+    settings-stopped e = step-refused l (settings t g) (stopped _ _ _ (judged-settings l t g) e)
+
+    module _ (first : Timely ≡ Clear) where
+      pub settings-bad : inRange g ≡ false → step l (settings t g) ≡ refusedWith l Range
+      settings-bad e =
+          let at : cond (not (inRange g)) (Refused Range) Clear ≡ Refused Range = rw e in
+          step-refused l (settings t g) (passed _ _ _ (judged-settings l t g) first ∙ at)
+
+      pub settings-done : inRange g ≡ true
+          → step l (settings t g) ≡ doneWith (record { slots = l .slots; keys = l .keys; home = l .home; settings = inForce g; clock = t })
+      unfolding after
+      settings-done e =
+          let at : cond (not (inRange g)) (Refused Range) Clear ≡ Clear = rw e in
+          step-done l (settings t g) (passed _ _ _ (judged-settings l t g) first ∙ at)
+
+  -- Keys
+
+  module _ (k : List ℕ) where
+    pub key-stopped : {r : Refusal} → Timely ≡ Refused r → step l (key t k) ≡ refusedWith l r
+    key-stopped e = step-refused l (key t k) (stopped _ _ _ (judged-key l t k) e)
+
+    module _ (first : Timely ≡ Clear) where
+      pub key-bad : (length k ≡ 16 → ⊥) → step l (key t k) ≡ refusedWith l Range
+      key-bad e =
+          let at : cond (not (isKey k)) (Refused Range) Clear ≡ Refused Range = rw (ne-eqb _ _ e) in
+          step-refused l (key t k) (passed _ _ _ (judged-key l t k) first ∙ at)
+
+      pub key-done : length k ≡ 16
+          → step l (key t k) ≡ doneWith (record { slots = l .slots; keys = withKey (l .keys) k; home = l .home; settings = l .settings; clock = t })
+      unfolding after
+      key-done e =
+          let at : cond (not (isKey k)) (Refused Range) Clear ≡ Clear = rw (eq-eqb _ _ e) in
+          step-done l (key t k) (passed _ _ _ (judged-key l t k) first ∙ at)
+
+  -- Calls by name
+
+  module _ (a : List ℕ) (p : ℕ) where
+    abbrev Named : Check
+    Named = refusal (timely (l .home .started) (isUntimely (l .clock) t) ++ addressed (l .home .family) a)
+
+    abbrev peer : Peer
+    peer = record { address = a; port = p }
+
+    module _ (e : Bool) where
+      pub release-stopped : {r : Refusal} → Named ≡ Refused r → step l (releaseOf e t a p) ≡ refusedWith l r
+      release-stopped q = step-refused l (releaseOf e t a p) (stopped _ _ _ (judged-release l t e a p) q)
+
+      module _ (first : Named ≡ Clear) where
+        pub release-none : isReleasable e (view l t peer .slot .status) ≡ false → step l (releaseOf e t a p) ≡ refusedWith l NoConnection
+        release-none q =
+            let at : cond (not (isReleasable e (view l t peer .slot .status))) (Refused NoConnection) Clear ≡ Refused NoConnection = rw q in
+            step-refused l (releaseOf e t a p) (passed _ _ _ (judged-release l t e a p) first ∙ at)
+
+        pub release-done : isReleasable e (view l t peer .slot .status) ≡ true → step l (releaseOf e t a p) ≡ doneWith (freed l t peer)
+        unfolding after
+        release-done q =
+            let at : cond (not (isReleasable e (view l t peer .slot .status))) (Refused NoConnection) Clear ≡ Clear = rw q in
+            go e (passed _ _ _ (judged-release l t e a p) first ∙ at)
+          where
+            go : (x : Bool) → judged l (releaseOf x t a p) ≡ Clear → step l (releaseOf x t a p) ≡ doneWith (freed l t peer)
+            go true j = step-done l (close t a p) j
+            go false j = step-done l (abandon t a p) j
+
+    module _ (room : ℕ) where
+      abbrev Roomy : Check
+      Roomy = refusal (timely (l .home .started) (isUntimely (l .clock) t) ++ addressed (l .home .family) a ++ roomy room)
+
+      abbrev v : View
+      v = view l t peer
+
+      pub resend-stopped : {r : Refusal} → Roomy ≡ Refused r → (step l (resend t a p room) ≡ refusedWith l r) × (outputOf l (resend t a p room) ≡ [])
+      resend-stopped q =
+          let j = stopped _ _ _ (judged-resend l t a p room) q in
+          (step-refused l (resend t a p room) j, output-refused l (resend t a p room) j)
+
+      module _ (first : Roomy ≡ Clear) where
+        pub resend-none : isWaiting (v .slot .status) ≡ false
+            → (step l (resend t a p room) ≡ refusedWith l NoConnection) × (outputOf l (resend t a p room) ≡ [])
+        resend-none q =
+            let at : cond (not (isWaiting (v .slot .status))) (Refused NoConnection) Clear ≡ Refused NoConnection = rw q in
+            let j = passed _ _ _ (judged-resend l t a p room) first ∙ at in
+            (step-refused l (resend t a p room) j, output-refused l (resend t a p room) j)
+
+        pub resend-done : isWaiting (v .slot .status) ≡ true
+            → (step l (resend t a p room) ≡ record { listener = moved l t (l .slots); event = events.Done; written = length (answerTo v a (v .slot) false room) })
+            × (outputOf l (resend t a p room) ≡ answerTo v a (v .slot) false room)
+        unfolding after
+        resend-done q =
+            let at : cond (not (isWaiting (v .slot .status))) (Refused NoConnection) Clear ≡ Clear = rw q in
+            let j = passed _ _ _ (judged-resend l t a p room) first ∙ at in
+            (step-done l (resend t a p room) j, output-done l (resend t a p room) j)
+
+  -- Segments
+
+  module _ (src seg : List ℕ) (iss room : ℕ) where
+    abbrev Wired : Check
+    Wired = refusal (wireChecks (l .home) (isUntimely (l .clock) t) src seg room)
+
+    abbrev this : Call
+    this = segment t src seg iss room
+
+    pub segment-stopped : {r : Refusal} → Wired ≡ Refused r → (step l this ≡ refusedWith l r) × (outputOf l this ≡ [])
+    segment-stopped q =
+        let j = stopped _ _ _ (judged-segment l t src seg iss room) q in
+        (step-refused l this j, output-refused l this j)
+
+    module _ (first : Wired ≡ Clear) where
+      abbrev seen : View
+      seen = view l t (sender src seg)
+
+      abbrev found : Scan
+      found = scanOf t (block src) (fieldsOf seg .source) (l .slots)
+
+      abbrev kind : Kind
+      kind = kindOf (fieldsOf seg .flags)
+
+      pub segment-refused : {r : Refusal} → refusal (kindChecks seen (fieldsOf seg) kind) ≡ Refused r
+          → (step l this ≡ refusedWith l r) × (outputOf l this ≡ [])
+      segment-refused q =
+          let j = passed _ _ _ (judged-segment l t src seg iss room) first ∙ q in
+          (step-refused l this j, output-refused l this j)
+
+      -- one that is done, with the event, the slot, and the fresh cookie if there is one, that its action came to
+      module _ (second : refusal (kindChecks seen (fieldsOf seg) kind) ≡ Clear) {e : Event} {s : Slot}
+          (event-is : e ≡ segmentEvent seen (block src) seg kind) (slot-is : s ≡ slotAfter seen (heldUntil seen t) (block src) (fieldsOf seg) iss (segmentEvent seen (block src) seg kind))
+          {next : Listener} (moves : next ≡ segmentAfter l t found e s) where
+        abbrev done : Event
+        done = segmentEvent seen (block src) seg kind
+
+        clear : judged l this ≡ Clear
+        clear = passed _ _ _ (judged-segment l t src seg iss room) first ∙ second
+
+        next-is : next ≡ after l this
+        unfolding after
+        next-is = rw (event-is, slot-is) at moves
+
+        pub segment-unanswered : isAnswered e ≡ false
+            → (record { listener = next; event = e; written = 0 } ≡ step l this) × (outputOf l this ≡ [])
+        segment-unanswered q =
+            let none : segmentOutput seen t src seg iss room done ≡ [] = rw (rw event-is at q) in
+            (rw (next-is, event-is) (sym (rw none at (step-done l this clear))), output-done l this clear ∙ none)
+
+        pub segment-answered : {fresh : Bool} {cookie : List ℕ} → fresh ≡ freshWith seen (block src) seg done → (fresh ≡ true → cookie ≡ cookieUnder (seen .keys .present) (block src)) → isAnswered e ≡ true
+            → let bytes = answerBytes (ownAddress (seen .home)) src (answerFrom (seen .home) (seen .settings .mss) s fresh) cookie room in
+            (record { listener = next; event = e; written = length bytes } ≡ step l this) × (outputOf l this ≡ bytes)
+        segment-answered {fresh} {cookie} fresh-is cookie-is q =
+            let some : segmentOutput seen t src seg iss room done
+            ≡ answerTo seen src (slotAfter seen (heldUntil seen t) (block src) (fieldsOf seg) iss done) (freshWith seen (block src) seg done) room = rw (rw event-is at q) in
+            let same = any-cookie (ownAddress (seen .home)) src seen s fresh cookie (cookieUnder (seen .keys .present) (block src)) room cookie-is in
+            let whole = some ∙ sym (rw (slot-is, fresh-is) at same) in
+            (rw (next-is, event-is, slot-is, fresh-is) (sym (rw whole at (step-done l this clear))), rw (slot-is, fresh-is) (output-done l this clear ∙ whole))
+
+-- An answer and an output that are to be what `step` and `outputOf` say: where nothing is written, and where the answer's bytes are.
+
+pub unwritten : {r x s : Outcome} {bytes : List ℕ} (out : List ℕ) → r ≡ x → (s ≡ x) × (bytes ≡ []) → (r ≡ s) × (out ≡ overwrite bytes out)
+unwritten out e q = (e ∙ sym (q .0), ap (λ (z : List ℕ). overwrite z out) (sym (q .1)))
+
+pub left-alone : {r s : Outcome} {bytes : List ℕ} (out : List ℕ) → (r ≡ s) × (bytes ≡ []) → (r ≡ s) × (out ≡ overwrite bytes out)
+left-alone out q = (q .0, ap (λ (z : List ℕ). overwrite z out) (sym (q .1)))
+
+pub written-over : {l : Listener} {e : Event} {n : ℕ} {s : Outcome} {bytes these last : List ℕ} (out : List ℕ)
+    → (record { listener = l; event = e; written = length these } ≡ s) × (bytes ≡ these) → (n ≡ length these) × (last ≡ overwrite these out)
+    → (record { listener = l; event = e; written = n } ≡ s) × (last ≡ overwrite bytes out)
+written-over out q w = (rw (w .0) (q .0), w .1 ∙ ap (λ (z : List ℕ). overwrite z out) (sym (q .1)))
+
+-- a resent answer, from the slot that was looked up
+module _ (l : Listener) (t : ℕ) (a : List ℕ) (p room : ℕ) (out : List ℕ) where
+  abbrev here : View
+  here = view l t (record { address = a; port = p })
+
+  pub resent : {s : Outcome} {bytes : List ℕ}
+      → (s ≡ record { listener = moved l t (l .slots); event = events.Done; written = length (answerTo here a (here .slot) false room) })
+      × (bytes ≡ answerTo here a (here .slot) false room)
+      → {x : Slot} → x ≡ here .slot → {w : ℕ} {last : List ℕ} (cookie : List ℕ)
+      → (w ≡ length (answerBytes (ownAddress (l .home)) a (answerFrom (l .home) (l .settings .mss) x false) cookie room))
+      × (last ≡ overwrite (answerBytes (ownAddress (l .home)) a (answerFrom (l .home) (l .settings .mss) x false) cookie room) out)
+      → (record { listener = moved l t (l .slots); event = events.Done; written = w } ≡ s) × (last ≡ overwrite bytes out)
+  resent q ex cookie e′ =
+      let same = any-cookie (ownAddress (l .home)) a here (here .slot) false cookie (cookieUnder (here .keys .present) (block a)) room (λ x. absurd (false≢true x)) in
+      let f = rw (ex, same) at e′ in
+      (rw (f .0) (sym (q .0)), f .1 ∙ ap (λ (z : List ℕ). overwrite z out) (sym (q .1)))
+
+-- what the checks of a clear call say of its address and time
+module _ (h : Home) (untimely : Bool) (a : List ℕ) where
+  pub roomy-short : (room : ℕ) → refusal (timely (h .started) untimely ++ addressed (h .family) a ++ roomy room) ≡ Clear → length a ≤ 16
+  roomy-short room e = family-short (h .family) a (not-false _ (every-check (timely (h .started) untimely ++ addressed (h .family) a ++ roomy room) e .1 .1 .0))
+
+  pub wired-short : (seg : List ℕ) (room : ℕ) → refusal (wireChecks h untimely a seg room) ≡ Clear → length a ≤ 16
+  wired-short seg room e = family-short (h .family) a (not-false _ (every-check (wireChecks h untimely a seg room) e .1 .1 .0))
+
+  pub wired-timely : (seg : List ℕ) (room : ℕ) → refusal (wireChecks h untimely a seg room) ≡ Clear → untimely ≡ false
+  wired-timely seg room e = every-check (wireChecks h untimely a seg room) e .1 .0
+
+-- settings in range have an MSS of two bytes
+pub mss-most : (g : Settings) → inRange g ≡ true → g .mss ≤ 1460
+unfolding inRange
+mss-most g e =
+    let a = and-true (leb (g .limit) 64) _ e in
+    let b = and-true (leb (g .room) 1460) _ (a .1) in
+    let c = and-true (leb (g .hold) 65535) _ (b .1) in
+    leb-true (g .mss) 1460 (and-true (leb 536 (g .mss)) _ (c .1) .1)

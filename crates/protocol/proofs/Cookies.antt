@@ -1,0 +1,81 @@
+-- When a cookie is right, as an equation with FIPS 197's definition: the listener and the journal share it. And its bytes one by one. Assumes nothing.
+use Prim.Native.Nat.{ℕ, _≤_}
+use mathlib.Core.Path.{_≡_, refl, ap}
+use mathlib.Core.Bool.{true, false≢true, or-true}
+use mathlib.Core.List.{List, [], _∷_}
+use native.Mathlib.Omega.{arith}
+use lib.ListN.{length, take, getD}
+use lib.Seq.{length-take-le}
+use Rattle.cipher.specs.Cipher.{cipher}
+use Rattle.cipher.proofs.Rounds.{block-length}
+use Rattle.cipher.proofs.Bounds.{cipher-byte}
+use Rattle.lists.specs.Bytes.{Bytes}
+use Rattle.segment.specs.Header.{optionArea}
+use Rattle.segment.specs.Options.{optionsOf}
+use Rattle.lists.proofs.ByteLists.{bytes-take, bytes-of, each-byte}
+use Rattle.lists.proofs.SameBytes.{same-bytes-eq, same-bytes-refl}
+use Rattle.protocol.specs.Cookie.{Carried, nothing, request, cookie, cookieUnder, found, carriedBy, rightUnder, right}
+use Rattle.protocol.specs.declared.state.Keys.{Keys}
+
+-- a cookie has 8 bytes
+pub cookie-eight : (w b : List ℕ) → length (cookieUnder w b) ≡ 8
+unfolding cookieUnder
+cookie-eight w b = length-take-le 8 (cipher w b) (omega (arith, block-length w b))
+
+-- a right cookie is the first 8 bytes of the block's encryption, and those are right
+pub right-is : (w b c : List ℕ) → rightUnder w b (cookie c) ≡ true → c ≡ take 8 (cipher w b)
+unfolding rightUnder cookieUnder
+right-is w b c e = same-bytes-eq c (take 8 (cipher w b)) e
+
+pub is-right : (w b c : List ℕ) → c ≡ take 8 (cipher w b) → rightUnder w b (cookie c) ≡ true
+unfolding rightUnder cookieUnder
+is-right w b c e = rw e (same-bytes-refl (take 8 (cipher w b)))
+
+-- no other option has a right cookie
+pub right-carried : (w b : List ℕ) (o : Carried) → rightUnder w b o ≡ true → o ≡ cookie (cookieUnder w b)
+unfolding rightUnder
+right-carried w b nothing e = absurd (false≢true e)
+right-carried w b request e = absurd (false≢true e)
+right-carried w b (cookie c) e = ap (λ (x : List ℕ). cookie x) (same-bytes-eq c (cookieUnder w b) e)
+
+-- the cookie that is issued for an address is right, under the present key and, once there is another, under the previous one
+pub issued-right : (w b : List ℕ) → rightUnder w b (cookie (cookieUnder w b)) ≡ true
+unfolding rightUnder
+issued-right w b = same-bytes-refl (cookieUnder w b)
+
+pub right-now : (k : Keys) (b : List ℕ) (o : Carried) → rightUnder (k .present) b o ≡ true → right k b o ≡ true
+unfolding right
+right-now k b o e = rw e
+
+pub right-before : (k : Keys) (b : List ℕ) (o : Carried) → k .rotated ≡ true → rightUnder (k .previous) b o ≡ true → right k b o ≡ true
+unfolding right
+right-before k b o r e = rw (r, e) (or-true (rightUnder (k .present) b o))
+
+-- the option of a segment, from the options that were found in it
+pub carried-found : (seg : List ℕ) → carriedBy seg ≡ found (optionsOf seg .fast) (optionArea seg)
+unfolding carriedBy
+carried-found seg = refl
+
+-- the first eight of some bytes
+eight : (xs : List ℕ) → 8 ≤ length xs
+    → getD xs 0 0 ∷ getD xs 1 0 ∷ getD xs 2 0 ∷ getD xs 3 0 ∷ getD xs 4 0 ∷ getD xs 5 0 ∷ getD xs 6 0 ∷ getD xs 7 0 ∷ [] ≡ take 8 xs
+eight [] h = absurd (omega arith)
+eight (a ∷ []) h = absurd (omega arith)
+eight (a ∷ b ∷ []) h = absurd (omega arith)
+eight (a ∷ b ∷ c ∷ []) h = absurd (omega arith)
+eight (a ∷ b ∷ c ∷ d ∷ []) h = absurd (omega arith)
+eight (a ∷ b ∷ c ∷ d ∷ e ∷ []) h = absurd (omega arith)
+eight (a ∷ b ∷ c ∷ d ∷ e ∷ f ∷ []) h = absurd (omega arith)
+eight (a ∷ b ∷ c ∷ d ∷ e ∷ f ∷ g ∷ []) h = absurd (omega arith)
+eight (a ∷ b ∷ c ∷ d ∷ e ∷ f ∷ g ∷ i ∷ xs) h = refl
+
+-- the first eight bytes of an encrypted block
+pub first-eight : (w b : List ℕ)
+    → let c = cipher w b in
+    getD c 0 0 ∷ getD c 1 0 ∷ getD c 2 0 ∷ getD c 3 0 ∷ getD c 4 0 ∷ getD c 5 0 ∷ getD c 6 0 ∷ getD c 7 0 ∷ [] ≡ take 8 c
+first-eight w b = eight (cipher w b) (omega (arith, block-length w b))
+
+-- so a cookie is made of bytes, if the round keys are
+pub cookie-bytes : (w b : List ℕ) → Bytes w → Bytes (cookieUnder w b)
+unfolding cookieUnder
+cookie-bytes w b h = bytes-take 8 (cipher w b) (bytes-of (cipher w b) (cipher-byte w b (each-byte w h)))

@@ -1,0 +1,153 @@
+-- New openings: when one is clear, what it is answered, and what it does to the table. Assumes nothing.
+use Prim.Native.Nat.{ℕ, _+_, _≤_, _<_}
+use mathlib.Core.Path.{_≡_, refl, sym, ap, _∙_}
+use mathlib.Core.Bool.{Bool, true, false, not, _&&_, true≢false, and-false}
+use mathlib.Core.List.{List, [], _∷_, _++_}
+use native.Mathlib.Omega.{arith}
+use borrow.Author.Tests.{ltb-true, ltb-false, lt-ltb, not-true, not-false}
+use lib.Dec.{ltb}
+use lib.ListN.{length, getD, set, List·getD-eq-default}
+use Rattle.segment.specs.Refusal.{order, Checks, refusal}
+use Rattle.segment.specs.Header.{fieldsOf, kindOf}
+use Rattle.lists.proofs.Bools.{and-true}
+use Rattle.segment.proofs.Numbers.{none-applies}
+use Rattle.segment.specs.declared.refusal.Refusal.the-variants.{TableFull}
+use Rattle.segment.specs.declared.refusal.Check.the-variants.{Clear}
+use Rattle.segment.specs.declared.header.Kind.the-variants.{Syn}
+use Rattle.lists.specs.Lists.{bit, tally, firstIndex}
+use Rattle.endpoint.specs.Address.{Peer, block}
+use Rattle.endpoint.specs.Checks.{isUntimely}
+use Rattle.lists.proofs.Sums.{sum-set, some-passes, first-passes, none-passes}
+use Rattle.protocol.specs.Cookie.{request, carriedBy, rightUnder, right}
+use Rattle.protocol.specs.Table.{isLive, isPending, isFree, freeSlot, newSlot, holdsPeer, freePlace, pendingAt}
+use Rattle.protocol.specs.Call.{segment, sender}
+use Rattle.protocol.specs.View.{known, view}
+use Rattle.protocol.specs.Refusals.{wireChecks, judged}
+use Rattle.protocol.specs.Step.{accepts, isEarly, isFresh, newEvent, answerTo, put, after, step}
+use Rattle.protocol.specs.declared.table.Status.{Status}
+use Rattle.protocol.specs.declared.table.Status.the-variants.{Free, SynReceived, FastOpen, ResetHeld, Established}
+use Rattle.protocol.specs.declared.table.Slot.{Slot}
+use Rattle.protocol.specs.declared.state.View.{View}
+use Rattle.protocol.specs.declared.state.Listener.{Listener}
+use Rattle.protocol.proofs.Slots.{not-free}
+
+-- The table
+
+-- something passes a test, or nothing does
+placed : {A P : Type 0} (p : A → Bool) (xs : List A) → (firstIndex p xs < length xs → P) → (length xs ≤ firstIndex p xs → P) → P
+placed {P} p xs found none = go (ltb (firstIndex p xs) (length xs)) refl
+  where
+    go : (b : Bool) → ltb (firstIndex p xs) (length xs) ≡ b → P
+    go true e = found (ltb-true _ _ e)
+    go false e = none (ltb-false _ _ e)
+
+pub first-found : {A : Type 0} (p : A → Bool) (xs : List A) → 0 < tally p xs → firstIndex p xs < length xs
+first-found p xs h = placed p xs (λ k. k) (λ k. absurd (omega (arith, h, none-passes p xs k)))
+
+-- a slot that holds a peer is not free
+holds-taken : (t : ℕ) (b : List ℕ) (port : ℕ) (s : Slot) → holdsPeer t b port s ≡ true → not (isFree (s .status)) ≡ true
+unfolding holdsPeer
+holds-taken t b port s e = rw (not-free (isLive t) refl (s .status) (and-true (isLive t (s .status)) _ e .0))
+
+-- the test that finds a peer's place
+abbrev pub holding : ℕ → Peer → Slot → Bool
+holding t p = holdsPeer t (block (p .address)) (p .port)
+
+-- a peer is not known exactly where no slot holds it
+module _ (l : Listener) (t : ℕ) (p : Peer) where
+  pub unknown-none : known (view l t p) ≡ false → tally (holding t p) (l .slots) ≡ 0
+  unknown-none e =
+      placed (holding t p) (l .slots)
+      (λ h. absurd (true≢false (sym (holds-taken _ _ _ _ (first-passes (holding t p) (l .slots) freeSlot h)) ∙ e)))
+      (none-passes (holding t p) (l .slots))
+
+  pub none-unknown : tally (holding t p) (l .slots) ≡ 0 → known (view l t p) ≡ false
+  none-unknown e =
+      placed (holding t p) (l .slots)
+      (λ h. absurd (omega (arith, e, some-passes (holding t p) (l .slots) _ freeSlot h (first-passes (holding t p) (l .slots) freeSlot h))))
+      (λ h. ap (λ (s : Slot). not (isFree (s .status))) (List·getD-eq-default (l .slots) freeSlot h))
+
+-- a slot that is not live is not pending
+idle : (t : ℕ) (s : Status) → isLive t s ≡ false → isPending t s ≡ false
+idle t Free e = refl
+idle t SynReceived e = refl
+idle t (FastOpen n) e = e
+idle t (ResetHeld end) e = e
+idle t Established e = refl
+
+-- the free place is taken: pending is one more if the new slot is pending
+pub pending-put : (t : ℕ) (slots : List Slot) (s : Slot) → freePlace t slots < length slots
+    → pendingAt t (set slots (freePlace t slots) s) ≡ pendingAt t slots + bit (isPending t (s .status))
+pending-put t slots s h =
+    let old : Slot = getD slots (freePlace t slots) freeSlot in
+    let gone = idle t (old .status) (not-true _ (first-passes (λ o. not (isLive t (o .status))) slots freeSlot h)) in
+    omega (arith, sum-set (λ o. bit (isPending t (o .status))) slots (freePlace t slots) s freeSlot h, ap bit gone)
+
+-- A new opening
+
+-- the slot of its connection, early or plain
+abbrev newStatus : Bool → ℕ → Status
+newStatus true n = FastOpen n
+newStatus false n = SynReceived
+
+abbrev pub slotFor : Bool → List ℕ → List ℕ → ℕ → ℕ → Slot
+slotFor early src seg iss n = newSlot (block src) (fieldsOf seg .source) (fieldsOf seg .seq) iss (newStatus early n)
+
+-- its checks: those of the wire, and 8 where no place is free
+abbrev newChecks : Listener → ℕ → List ℕ → List ℕ → ℕ → Checks
+newChecks l t src seg room =
+    wireChecks (l .home) (isUntimely (l .clock) t) src seg room ++ ((TableFull, not (ltb (freePlace t (l .slots)) 64)) ∷ [])
+
+-- what is known of one that is clear
+pub record Admitted (l : Listener) (t : ℕ) : Type 0 where
+  pub started : l .home .started ≡ true
+  pub place : freePlace t (l .slots) < 64
+
+-- early: Fast Open is on, pending is below the limit, and the cookie is right
+pub is-early : (l : Listener) (t : ℕ) (src seg : List ℕ) → l .settings .on ≡ true → pendingAt t (l .slots) < l .settings .limit
+    → right (l .keys) (block src) (carriedBy seg) ≡ true → isEarly (view l t (sender src seg)) (block src) seg ≡ true
+unfolding isEarly
+is-early l t src seg on below r = rw (on, lt-ltb (pendingAt t (l .slots)) (l .settings .limit) below, r)
+
+-- a request for a cookie is not early, and gets one where Fast Open is on and pending is below the limit
+pub request-plain : (v : View) (b seg : List ℕ) → carriedBy seg ≡ request → isEarly v b seg ≡ false
+unfolding isEarly right rightUnder
+request-plain v b seg r = rw (r, and-false (v .keys .rotated)) (and-false (v .settings .on && v .below))
+
+pub request-fresh : (l : Listener) (t : ℕ) (src seg : List ℕ) → l .settings .on ≡ true → pendingAt t (l .slots) < l .settings .limit
+    → carriedBy seg ≡ request → isFresh (view l t (sender src seg)) (block src) seg ≡ true
+unfolding isFresh rightUnder
+request-fresh l t src seg on below r = rw (on, lt-ltb (pendingAt t (l .slots)) (l .settings .limit) below, r)
+
+module _ (l : Listener) (t : ℕ) (src seg : List ℕ) (iss room : ℕ) (syn : kindOf (fieldsOf seg .flags) ≡ Syn)
+    (new : known (view l t (sender src seg)) ≡ false) where
+  judged-new : judged l (segment t src seg iss room) ≡ refusal (newChecks l t src seg room)
+  unfolding judged
+  judged-new = rw (syn, new)
+
+  -- it is clear where the wire checks are and a place is free
+  pub new-clear : refusal (wireChecks (l .home) (isUntimely (l .clock) t) src seg room) ≡ Clear → freePlace t (l .slots) < 64
+      → judged l (segment t src seg iss room) ≡ Clear
+  new-clear e h = judged-new ∙ rw (lt-ltb (freePlace t (l .slots)) 64 h) e
+
+  -- and where it is clear, these hold: 13 and 8 by their places in the order
+  pub clear-new : judged l (segment t src seg iss room) ≡ Clear → Admitted l t
+  clear-new e =
+      let n = none-applies order (newChecks l t src seg room) (sym judged-new ∙ e) in
+      record {
+        started = not-false _ (n .0);
+        place = ltb-true _ _ (not-false _ (n .1 .1 .1 .1 .1 .1 .1 .1 .1 .1 .1 .0));
+      }
+
+  -- what it is answered
+  pub step-new : (early : Bool) → isEarly (view l t (sender src seg)) (block src) seg ≡ early → judged l (segment t src seg iss room) ≡ Clear
+      → step l (segment t src seg iss room)
+      ≡ record {
+        listener = put l t (freePlace t (l .slots)) (slotFor early src seg iss (accepts (l .settings) seg));
+        event = newEvent early (accepts (l .settings) seg);
+        written = length (answerTo (view l t (sender src seg)) src (slotFor early src seg iss (accepts (l .settings) seg))
+            (isFresh (view l t (sender src seg)) (block src) seg) room);
+      }
+  unfolding step after
+  step-new true e c = rw (c, syn, new, e)
+  step-new false e c = rw (c, syn, new, e)

@@ -1,0 +1,47 @@
+-- Document 01, "Cookie": the cookie of an address under a key, and when a cookie is right.
+-- Assumes nothing.
+use Prim.Native.Nat.{ℕ}
+use mathlib.Core.List.{List}
+use mathlib.Core.Bool.{Bool, true, false, _&&_, _||_}
+use lib.ListN.{take, drop}
+use Rattle.cipher.specs.Cipher.{cipher}
+use Rattle.segment.specs.Header.{optionArea}
+use Rattle.segment.specs.Options.{optionsOf}
+use Rattle.segment.specs.declared.options.FastOpen.{FastOpen}
+use Rattle.segment.specs.declared.options.FastOpen.the-variants.{Absent, Request, Cookie}
+use Rattle.lists.specs.Bytes.{sameBytes}
+use Rattle.protocol.specs.declared.state.Keys.{Keys}
+
+-- the first 8 bytes of the encryption of an address's block, under a key's round keys
+unfoldable pub cookieUnder : List ℕ → List ℕ → List ℕ
+cookieUnder roundKeys b = take 8 (cipher roundKeys b)
+
+-- what a segment has as its counted Fast Open option: none, a request for a cookie, or a cookie
+pub data Carried : Type 0 where
+  nothing request : Carried
+  cookie : List ℕ → Carried
+
+-- the option that was found in an option area
+abbrev pub found : FastOpen → List ℕ → Carried
+found Absent area = nothing
+found Request area = request
+found (Cookie at len) area = cookie (take len (drop at area))
+
+-- the Fast Open option of a segment that counts
+unfoldable pub carriedBy : List ℕ → Carried
+carriedBy seg = found (optionsOf seg .fast) (optionArea seg)
+
+abbrev pub counts : Carried → Bool
+counts nothing = false
+counts request = true
+counts (cookie c) = true
+
+-- an option has a cookie, and it is the one under these round keys
+unfoldable pub rightUnder : List ℕ → List ℕ → Carried → Bool
+rightUnder roundKeys b nothing = false
+rightUnder roundKeys b request = false
+rightUnder roundKeys b (cookie c) = sameBytes c (cookieUnder roundKeys b)
+
+-- under the present key, or under the previous one if there is one
+unfoldable pub right : Keys → List ℕ → Carried → Bool
+right k b o = rightUnder (k .present) b o || (k .rotated && rightUnder (k .previous) b o)

@@ -1,0 +1,58 @@
+-- The letter's demand 3 and document 01, "Demand 3's book": over every list of calls after a done start, refused ones included, the pending number and every
+-- verdict, accepted count and accepted part are those of the journal.
+-- Assumes nothing.
+use Prim.Native.Nat.{ℕ}
+use mathlib.Core.Path.{_≡_}
+use mathlib.Core.List.{List, [], _∷_}
+use Rattle.protocol.specs.Call.{Call, segment, settings, key, abandon, resend, close, numberOfEvent, verdictOf, acceptedOf, acceptedPart}
+use Rattle.protocol.specs.Step.{startOf, step, pendingNumber}
+use Rattle.protocol.specs.Journal.{Journal, begun, feed, says, Said, pendingOf}
+use Rattle.protocol.specs.declared.state.Listener.{Listener}
+use Rattle.protocol.specs.declared.answer.Event.{Event}
+
+-- the bytes of a call that is a segment
+abbrev pub segmentOf : Call → List ℕ
+segmentOf (segment t src seg iss room) = seg
+segmentOf (settings t g) = []
+segmentOf (key t k) = []
+segmentOf (abandon t a p) = []
+segmentOf (resend t a p room) = []
+segmentOf (close t a p) = []
+
+-- what the listener's answer to a call says
+abbrev pub answerSays : Call → Event → Said
+answerSays c e = record { verdict = verdictOf e; accepted = acceptedOf e; part = acceptedPart (segmentOf c) e }
+
+-- The listener after a list of calls, each on the listener that the last one left, and its answers.
+unfoldable pub listenerAfter : Listener → List Call → Listener
+listenerAfter l [] = l
+listenerAfter l (c ∷ cs) = listenerAfter (step l c .listener) cs
+
+unfoldable pub answers : Listener → List Call → List Said
+answers l [] = []
+answers l (c ∷ cs) = answerSays c (step l c .event) ∷ answers (step l c .listener) cs
+
+-- the calls with the numbers that they were answered: all that the journal is fed
+pub record Fed : Type 0 where
+  pub call : Call
+  pub number : ℕ
+
+unfoldable pub numbered : Listener → List Call → List Fed
+numbered l [] = []
+numbered l (c ∷ cs) = record { call = c; number = numberOfEvent (step l c .event) } ∷ numbered (step l c .listener) cs
+
+-- The journal after them, and what it says of each.
+unfoldable pub journalAfter : Journal → List Fed → Journal
+journalAfter j [] = j
+journalAfter j (f ∷ fs) = journalAfter (feed j (f .call) (f .number)) fs
+
+unfoldable pub sayings : Journal → List Fed → List Said
+sayings j [] = []
+sayings j (f ∷ fs) = says j (f .call) (f .number) ∷ sayings (feed j (f .call) (f .number)) fs
+
+-- For a start with these arguments and a list of calls
+pub record Demand3 (own : List ℕ) (port : ℕ) (k : List ℕ) (calls : List Call) : Type 0 where
+  pub pending : pendingNumber (listenerAfter (startOf own port k .listener) calls)
+      ≡ pendingOf (journalAfter (begun own port k) (numbered (startOf own port k .listener) calls))
+  pub verdicts : answers (startOf own port k .listener) calls
+      ≡ sayings (begun own port k) (numbered (startOf own port k .listener) calls)

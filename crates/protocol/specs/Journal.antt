@@ -1,0 +1,195 @@
+-- Document 01, "Demand 3's book": a record of the calls that is kept apart from the listener. It is fed the start's arguments, each call's and the number
+-- answered, and nothing from the slots.
+-- Assumes nothing.
+use Prim.Native.Nat.{ℕ, zero, suc, _+_, min}
+use mathlib.Core.List.{List, [], _∷_}
+use mathlib.Core.Bool.{Bool, true, false, cond, _&&_, _||_}
+use lib.Dec.{ltb}
+use lib.ListN.{length, take}
+use Rattle.cipher.specs.KeyExpansion.{keyExpansion}
+use Rattle.segment.specs.Header.{fieldsOf, payloadOf, kindOf}
+use Rattle.segment.specs.declared.header.Kind.{Kind}
+use Rattle.segment.specs.declared.header.Kind.the-variants.{Syn, Rst, Ack, Other}
+use Rattle.lists.specs.Lists.{tally, amend}
+use Rattle.endpoint.specs.Address.{Peer, samePeer, block}
+use Rattle.protocol.specs.Cookie.{Carried, carriedBy, rightUnder}
+use Rattle.protocol.specs.Call.{Call, segment, settings, key, abandon, resend, close, sender, timeOf, Verdict, early, plain, repeat, unjudged}
+use Rattle.protocol.specs.declared.state.Settings.{Settings}
+
+-- what is noted of a connection
+pub data Mark : Type 0 where
+  markPlain markEarly markOpen : Mark
+  markHeld : ℕ → Mark
+
+-- an entry, by name
+pub record Entry : Type 0 where
+  pub who : Peer
+  pub mark : Mark
+
+pub data PreviousKey : Type 0 where
+  noKey : PreviousKey
+  aKey : List ℕ → PreviousKey
+
+pub record Journal : Type 0 where
+  pub time : ℕ
+  pub settings : Settings
+  pub present : List ℕ
+  pub previous : PreviousKey
+  pub entries : List Entry
+
+-- At the start: as in the fresh state.
+abbrev pub begun : List ℕ → ℕ → List ℕ → Journal
+begun own port k =
+    record {
+      time = 0;
+      settings = record { on = false; limit = 0; room = 0; hold = 0; mss = 536 };
+      present = k;
+      previous = noKey;
+      entries = [];
+    }
+
+-- Its pending: the early entries, and the held ones that end after its time.
+abbrev pub pends : ℕ → Mark → Bool
+pends t markPlain = false
+pends t markEarly = true
+pends t markOpen = false
+pends t (markHeld end) = ltb t end
+
+abbrev pub pendingOf : Journal → ℕ
+pendingOf j = tally (λ e. pends (j .time) (e .mark)) (j .entries)
+
+-- The settings in force.
+abbrev pub settingsOf : Journal → Settings
+settingsOf j = j .settings
+
+-- Entries are found by name.
+abbrev pub named : Peer → Entry → Bool
+named p e = samePeer p (e .who)
+
+abbrev pub has : Peer → List Entry → Bool
+has p entries = ltb 0 (tally (named p) entries)
+
+-- What becomes of an entry, by rules: it stays, changes or is struck out.
+
+-- a held one that ends at or before the time is struck out
+abbrev pub keptMark : ℕ → Peer → Mark → List Entry
+keptMark t p markPlain = record { who = p; mark = markPlain } ∷ []
+keptMark t p markEarly = record { who = p; mark = markEarly } ∷ []
+keptMark t p markOpen = record { who = p; mark = markOpen } ∷ []
+keptMark t p (markHeld end) = cond (ltb t end) (record { who = p; mark = markHeld end } ∷ []) []
+
+abbrev pub kept : ℕ → Entry → List Entry
+kept t e = keptMark t (e .who) (e .mark)
+
+-- a rule for the entry of one name; others stay
+abbrev pub only : Peer → (Entry → List Entry) → Entry → List Entry
+only p rule e = cond (named p e) (rule e) (e ∷ [])
+
+abbrev pub struck : Entry → List Entry
+struck e = []
+
+abbrev pub completed : Entry → List Entry
+completed e = record { who = e .who; mark = markOpen } ∷ []
+
+-- plain is struck out, early is held until an end
+abbrev pub resetMark : ℕ → Peer → Mark → List Entry
+resetMark end p markPlain = []
+resetMark end p markEarly = record { who = p; mark = markHeld end } ∷ []
+resetMark end p markOpen = record { who = p; mark = markOpen } ∷ []
+resetMark end p (markHeld e) = record { who = p; mark = markHeld e } ∷ []
+
+abbrev pub wasReset : ℕ → Entry → List Entry
+wasReset end e = resetMark end (e .who) (e .mark)
+
+abbrev pub with : Journal → List Entry → Journal
+with j entries = record { time = j .time; settings = j .settings; present = j .present; previous = j .previous; entries = entries }
+
+abbrev pub amended : Journal → Peer → (Entry → List Entry) → Journal
+amended j p rule = with j (amend (only p rule) (j .entries))
+
+-- Openings
+
+-- the cookie is the one for the address under the present key, or under the previous one
+abbrev pub rightBefore : PreviousKey → List ℕ → Carried → Bool
+rightBefore noKey b o = false
+rightBefore (aKey k) b o = rightUnder (keyExpansion k) b o
+
+unfoldable pub hasRight : Journal → List ℕ → List ℕ → Bool
+hasRight j src seg = rightUnder (keyExpansion (j .present)) (block src) (carriedBy seg) || rightBefore (j .previous) (block src) (carriedBy seg)
+
+-- the three terms for an early opening: on, below the limit so far, a right cookie
+unfoldable pub opensEarly : Journal → List ℕ → List ℕ → Bool
+opensEarly j src seg = settingsOf j .on && (ltb (pendingOf j) (settingsOf j .limit) && hasRight j src seg)
+
+abbrev pub newMark : Bool → Mark
+newMark true = markEarly
+newMark false = markPlain
+
+-- a name with an entry is a repeat; another gets one
+abbrev pub opened : Bool → Journal → List ℕ → List ℕ → Journal
+opened true j src seg = j
+opened false j src seg = with j (record { who = sender src seg; mark = newMark (opensEarly j src seg) } ∷ j .entries)
+
+-- One call
+
+-- the journal at a call's time: holds that have run out are gone
+abbrev pub atTime : ℕ → Journal → Journal
+atTime t j =
+    record { time = t; settings = j .settings; present = j .present; previous = j .previous; entries = amend (kept t) (j .entries) }
+
+unfoldable pub segmentNoted : Journal → List ℕ → List ℕ → Kind → Journal
+segmentNoted j src seg Syn = opened (has (sender src seg) (j .entries)) j src seg
+segmentNoted j src seg Ack = amended j (sender src seg) completed
+segmentNoted j src seg Rst = amended j (sender src seg) (wasReset (j .time + settingsOf j .hold))
+segmentNoted j src seg Other = j
+
+unfoldable pub noted : Journal → Call → Journal
+noted j (segment t src seg iss room) = segmentNoted j src seg (kindOf (fieldsOf seg .flags))
+noted j (settings t g) = record { time = j .time; settings = g; present = j .present; previous = j .previous; entries = j .entries }
+noted j (key t k) = record { time = j .time; settings = j .settings; present = k; previous = aKey (j .present); entries = j .entries }
+noted j (abandon t a p) = amended j (record { address = a; port = p }) struck
+noted j (resend t a p room) = j
+noted j (close t a p) = amended j (record { address = a; port = p }) struck
+
+-- a call and the number that it was answered: a refused one leaves the journal as it is
+unfoldable pub feed : Journal → Call → ℕ → Journal
+feed j c zero = noted (atTime (timeOf c) j) c
+feed j c (suc n) = j
+
+-- What it says of a call's answer: the verdict, the accepted count and the accepted part, that many bytes from the payload's start.
+pub record Said : Type 0 where
+  pub verdict : Verdict
+  pub accepted : ℕ
+  pub part : List ℕ
+
+abbrev pub saysNothing : Said
+saysNothing = record { verdict = unjudged; accepted = 0; part = [] }
+
+-- only an early one accepts bytes, up to the early room
+abbrev pub saysNew : Bool → Journal → List ℕ → Said
+saysNew true j seg =
+    let n = min (length (payloadOf seg)) (settingsOf j .room) in
+    record { verdict = early; accepted = n; part = take n (payloadOf seg) }
+saysNew false j seg = record { verdict = plain; accepted = 0; part = [] }
+
+abbrev pub saysOpening : Bool → Journal → List ℕ → List ℕ → Said
+saysOpening true j src seg = record { verdict = repeat; accepted = 0; part = [] }
+saysOpening false j src seg = saysNew (opensEarly j src seg) j seg
+
+unfoldable pub saysSegment : Journal → List ℕ → List ℕ → Kind → Said
+saysSegment j src seg Syn = saysOpening (has (sender src seg) (j .entries)) j src seg
+saysSegment j src seg Ack = saysNothing
+saysSegment j src seg Rst = saysNothing
+saysSegment j src seg Other = saysNothing
+
+unfoldable pub saysDone : Journal → Call → Said
+saysDone j (segment t src seg iss room) = saysSegment j src seg (kindOf (fieldsOf seg .flags))
+saysDone j (settings t g) = saysNothing
+saysDone j (key t k) = saysNothing
+saysDone j (abandon t a p) = saysNothing
+saysDone j (resend t a p room) = saysNothing
+saysDone j (close t a p) = saysNothing
+
+unfoldable pub says : Journal → Call → ℕ → Said
+says j c zero = saysDone (atTime (timeOf c) j) c
+says j c (suc n) = saysNothing

@@ -1,0 +1,12 @@
+-- The listener's rules, as document 01 defines them. In reading order: the cookie; the slots; the calls and what an answer says; what a call sees of the
+-- listener; its refusals; the call itself; the journal of the calls and demand 3; the two openings; and the table of sixteen.
+pub mod Cookie
+pub mod Table
+pub mod Call
+pub mod View
+pub mod Refusals
+pub mod Step
+pub mod Journal
+pub mod Demand3
+pub mod Twins
+pub mod Sixteen

@@ -1,0 +1,234 @@
+-- Document 01, "Listener": the start, and one call on a listener with its answer, the listener next and what is written.
+-- Assumes nothing.
+use Prim.Native.Nat.{ℕ, _+_, min}
+use mathlib.Core.List.{List, [], _∷_}
+use mathlib.Core.Bool.{Bool, true, false, cond, not, _&&_}
+use lib.ListN.{length, replicate, set}
+use Rattle.cipher.specs.KeyExpansion.{keyExpansion}
+use Rattle.segment.specs.Refusal.{Checks, refusal}
+use Rattle.segment.specs.Header.{fieldsOf, payloadOf, kindOf}
+use Rattle.segment.specs.Write.{answerBytes}
+use Rattle.segment.specs.declared.refusal.Refusal.the-variants.{Address, Range}
+use Rattle.segment.specs.declared.refusal.Check.{Check}
+use Rattle.segment.specs.declared.refusal.Check.the-variants.{Clear, Refused}
+use Rattle.segment.specs.declared.header.Header.{Header}
+use Rattle.segment.specs.declared.header.Kind.{Kind}
+use Rattle.segment.specs.declared.header.Kind.the-variants.{Syn, Rst, Ack, Other}
+use Rattle.segment.specs.declared.write.Answer.{Answer}
+use Rattle.endpoint.specs.Address.{Peer, isSize, familyOf, block}
+use Rattle.endpoint.specs.declared.address.Family.the-variants.{V4}
+use Rattle.protocol.specs.Cookie.{carriedBy, counts, cookieUnder, rightUnder, right}
+use Rattle.protocol.specs.Table.{acceptedWith, afterReset, freeSlot, newSlot, withStatus, pendingAt}
+use Rattle.protocol.specs.Call.{Call, segment, settings, key, abandon, resend, close, sender}
+use Rattle.protocol.specs.View.{known, ownAddress, scanFor, view, viewOf}
+use Rattle.protocol.specs.Refusals.{isKey, judged}
+use Rattle.protocol.specs.declared.table.Status.the-variants.{Free, SynReceived, FastOpen, Established}
+use Rattle.protocol.specs.declared.table.Slot.{Slot}
+use Rattle.protocol.specs.declared.table.Scan.{Scan}
+use Rattle.protocol.specs.declared.state.Settings.{Settings}
+use Rattle.protocol.specs.declared.state.InForce.{InForce}
+use Rattle.protocol.specs.declared.state.Keys.{Keys}
+use Rattle.protocol.specs.declared.state.Home.{Home}
+use Rattle.protocol.specs.declared.state.View.{View}
+use Rattle.protocol.specs.declared.state.Listener.{Listener}
+use Rattle.protocol.specs.declared.answer.Event.{Event}
+use Rattle.protocol.specs.declared.answer.Event.the-variants as events
+use Rattle.protocol.specs.declared.answer.Outcome.{Outcome}
+use Rattle.protocol.specs.declared.answer.Started.{Started}
+
+-- The start
+
+-- "Fresh state": Fast Open off, limit, early room and hold 0, own MSS 536
+abbrev pub freshSettings : InForce
+freshSettings = record { on = false; limit = 0; room = 0; hold = 0; mss = 536 }
+
+-- a listener with no connection, at time 0
+abbrev pub blank : Home → Keys → Listener
+blank h k = record { slots = replicate 64 freeSlot; keys = k; home = h; settings = freshSettings; clock = 0 }
+
+-- one that was never started: every call on it answers 13
+abbrev pub neverStarted : Listener
+neverStarted =
+    blank (record { started = false; family = V4; own = replicate 16 0; port = 0 })
+    (record { present = replicate 176 0; previous = replicate 176 0; rotated = false })
+
+abbrev pub freshListener : List ℕ → ℕ → List ℕ → Listener
+freshListener own port k =
+    blank (record { started = true; family = familyOf (length own); own = block own; port = port })
+    (record { present = keyExpansion k; previous = replicate 176 0; rotated = false })
+
+-- 2: not 4 or 16 bytes. 12: not a key
+abbrev pub startChecks : List ℕ → List ℕ → Checks
+startChecks own k = (Address, not (isSize (length own))) ∷ (Range, not (isKey k)) ∷ []
+
+abbrev pub startedBy : List ℕ → ℕ → List ℕ → Check → Started
+startedBy own port k Clear = record { listener = freshListener own port k; check = Clear }
+startedBy own port k (Refused r) = record { listener = neverStarted; check = Refused r }
+
+unfoldable pub startOf : List ℕ → ℕ → List ℕ → Started
+startOf own port k = startedBy own port k (refusal (startChecks own k))
+
+-- An opening
+
+-- cookies are taken and given: Fast Open is on and pending is below the limit
+abbrev pub cookiesRun : View → Bool
+cookiesRun v = v .settings .on && v .below
+
+-- a new opening, from the address with this block, is early
+unfoldable pub isEarly : View → List ℕ → List ℕ → Bool
+isEarly v b seg = cookiesRun v && right (v .keys) b (carriedBy seg)
+
+-- a new opening's answer has a fresh cookie
+unfoldable pub isFresh : View → List ℕ → List ℕ → Bool
+isFresh v b seg = cookiesRun v && (counts (carriedBy seg) && not (rightUnder (v .keys .present) b (carriedBy seg)))
+
+-- the accepted bytes of an early one: the smaller of payload and early room
+abbrev pub accepts : InForce → List ℕ → ℕ
+accepts g seg = min (length (payloadOf seg)) (g .room)
+
+abbrev pub newEvent : Bool → ℕ → Event
+newEvent true n = events.FastOpen n
+newEvent false n = events.Regular
+
+abbrev pub openingEvent : Bool → View → List ℕ → List ℕ → Event
+openingEvent true v b seg = events.Retransmission
+openingEvent false v b seg = newEvent (isEarly v b seg) (accepts (v .settings) seg)
+
+-- What a done call answers
+
+abbrev pub segmentEvent : View → List ℕ → List ℕ → Kind → Event
+segmentEvent v b seg Syn = openingEvent (known v) v b seg
+segmentEvent v b seg Ack = events.Completed
+segmentEvent v b seg Rst = events.WasReset
+segmentEvent v b seg Other = events.Done
+
+abbrev pub doneEvent : View → Call → Event
+doneEvent v (segment t src seg iss room) = segmentEvent v (block src) seg (kindOf (fieldsOf seg .flags))
+doneEvent v (settings t g) = events.Done
+doneEvent v (key t k) = events.Done
+doneEvent v (abandon t a p) = events.Done
+doneEvent v (resend t a p room) = events.Done
+doneEvent v (close t a p) = events.Done
+
+-- when the hold of a reset at a time ends
+abbrev pub heldUntil : View → ℕ → ℕ
+heldUntil v t = t + v .settings .hold
+
+-- the connection's slot after a done segment, where a hold would last until an end
+abbrev pub slotAfter : View → ℕ → List ℕ → Header → ℕ → Event → Slot
+slotAfter v end b h iss (events.FastOpen n) = newSlot b (h .source) (h .seq) iss (FastOpen n)
+slotAfter v end b h iss events.Regular = newSlot b (h .source) (h .seq) iss SynReceived
+slotAfter v end b h iss events.Retransmission = v .slot
+slotAfter v end b h iss events.Completed = withStatus (v .slot) Established
+slotAfter v end b h iss events.WasReset = withStatus (v .slot) (afterReset end (v .slot .status))
+slotAfter v end b h iss events.Done = v .slot
+slotAfter v end b h iss (events.Refused r) = v .slot
+
+-- What is written
+
+-- "Answer", from a slot, with the MSS now set
+abbrev pub answerFrom : Home → ℕ → Slot → Bool → Answer
+answerFrom h mss s fresh =
+    record { source = h .port; dest = s .port; iss = s .iss; irs = s .irs; accepted = acceptedWith (s .status); mss = mss; fresh = fresh }
+
+-- to an address, in an output with so much room; a fresh cookie is the one under the present key
+abbrev pub answerTo : View → List ℕ → Slot → Bool → ℕ → List ℕ
+answerTo v a s fresh room =
+    answerBytes (ownAddress (v .home)) a (answerFrom (v .home) (v .settings .mss) s fresh) (cookieUnder (v .keys .present) (block a)) room
+
+-- openings are answered
+abbrev pub isAnswered : Event → Bool
+isAnswered (events.FastOpen n) = true
+isAnswered events.Regular = true
+isAnswered events.Retransmission = true
+isAnswered events.Completed = false
+isAnswered events.WasReset = false
+isAnswered events.Done = false
+isAnswered (events.Refused r) = false
+
+-- a new one's answer may have a fresh cookie, a repeat's has none
+abbrev pub freshWith : View → List ℕ → List ℕ → Event → Bool
+freshWith v b seg (events.FastOpen n) = isFresh v b seg
+freshWith v b seg events.Regular = isFresh v b seg
+freshWith v b seg events.Retransmission = false
+freshWith v b seg events.Completed = false
+freshWith v b seg events.WasReset = false
+freshWith v b seg events.Done = false
+freshWith v b seg (events.Refused r) = false
+
+abbrev pub segmentOutput : View → ℕ → List ℕ → List ℕ → ℕ → ℕ → Event → List ℕ
+segmentOutput v t src seg iss room e =
+    cond (isAnswered e) (answerTo v src (slotAfter v (heldUntil v t) (block src) (fieldsOf seg) iss e) (freshWith v (block src) seg e) room) []
+
+abbrev pub doneOutput : View → Call → List ℕ
+doneOutput v (segment t src seg iss room) = segmentOutput v t src seg iss room (doneEvent v (segment t src seg iss room))
+doneOutput v (settings t g) = []
+doneOutput v (key t k) = []
+doneOutput v (abandon t a p) = []
+doneOutput v (resend t a p room) = answerTo v a (v .slot) false room
+doneOutput v (close t a p) = []
+
+-- The listener after a done call
+
+-- at a time, with other slots
+abbrev pub moved : Listener → ℕ → List Slot → Listener
+moved l t slots = record { slots = slots; keys = l .keys; home = l .home; settings = l .settings; clock = t }
+
+-- one slot changes
+abbrev pub put : Listener → ℕ → ℕ → Slot → Listener
+put l t i s = moved l t (set (l .slots) i s)
+
+-- a new connection takes the lowest free place, a known one keeps its own (a repeat's slot stays as it is)
+abbrev pub segmentAfter : Listener → ℕ → Scan → Event → Slot → Listener
+segmentAfter l t found (events.FastOpen n) s = put l t (found .free) s
+segmentAfter l t found events.Regular s = put l t (found .free) s
+segmentAfter l t found events.Retransmission s = put l t (found .place) s
+segmentAfter l t found events.Completed s = put l t (found .place) s
+segmentAfter l t found events.WasReset s = put l t (found .place) s
+segmentAfter l t found events.Done s = moved l t (l .slots)
+segmentAfter l t found (events.Refused r) s = l
+
+-- the peer's slot becomes free
+abbrev pub freed : Listener → ℕ → Peer → Listener
+freed l t p = put l t (scanFor l t p .place) (withStatus (view l t p .slot) Free)
+
+-- settings as they are kept
+abbrev pub inForce : Settings → InForce
+inForce g = record { on = g .on; limit = g .limit; room = g .room; hold = g .hold; mss = g .mss }
+
+-- the present key becomes the previous one
+abbrev pub withKey : Keys → List ℕ → Keys
+withKey k new = record { present = keyExpansion new; previous = k .present; rotated = true }
+
+unfoldable pub after : Listener → Call → Listener
+after l (segment t src seg iss room) =
+    let p = sender src seg in
+    let v = view l t p in
+    let e = doneEvent v (segment t src seg iss room) in
+    segmentAfter l t (scanFor l t p) e (slotAfter v (heldUntil v t) (block src) (fieldsOf seg) iss e)
+after l (settings t g) = record { slots = l .slots; keys = l .keys; home = l .home; settings = inForce g; clock = t }
+after l (key t k) = record { slots = l .slots; keys = withKey (l .keys) k; home = l .home; settings = l .settings; clock = t }
+after l (abandon t a p) = freed l t (record { address = a; port = p })
+after l (resend t a p room) = moved l t (l .slots)
+after l (close t a p) = freed l t (record { address = a; port = p })
+
+-- A call: refused, it changes nothing
+
+abbrev pub outcomeOf : Listener → Call → Check → Outcome
+outcomeOf l c Clear = record { listener = after l c; event = doneEvent (viewOf l c) c; written = length (doneOutput (viewOf l c) c) }
+outcomeOf l c (Refused r) = record { listener = l; event = events.Refused r; written = 0 }
+
+unfoldable pub step : Listener → Call → Outcome
+step l c = outcomeOf l c (judged l c)
+
+abbrev pub outputIf : View → Call → Check → List ℕ
+outputIf v c Clear = doneOutput v c
+outputIf v c (Refused r) = []
+
+-- what a call writes at the output's start
+unfoldable pub outputOf : Listener → Call → List ℕ
+outputOf l c = outputIf (viewOf l c) c (judged l c)
+
+-- "Plain readings": the pending number, 0 where never started
+unfoldable pub pendingNumber : Listener → ℕ
+pendingNumber l = cond (l .home .started) (pendingAt (l .clock) (l .slots)) 0

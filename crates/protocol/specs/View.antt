@@ -1,0 +1,57 @@
+-- Document 01, "Listener": what a call's answer depends on, the listener as the call sees it, at its time and for its peer. No answer says in which place a
+-- slot stands.
+-- Assumes nothing.
+use Prim.Native.Nat.{ℕ}
+use mathlib.Core.List.{List}
+use mathlib.Core.Bool.{Bool, not}
+use lib.Dec.{ltb}
+use lib.ListN.{getD, take}
+use Rattle.endpoint.specs.Address.{Peer, size, block}
+use Rattle.endpoint.specs.Checks.{isUntimely}
+use Rattle.protocol.specs.Table.{isFree, freeSlot, scanOf}
+use Rattle.protocol.specs.Call.{Call, timeOf, peerOf}
+use Rattle.protocol.specs.declared.state.Home.{Home}
+use Rattle.protocol.specs.declared.state.InForce.{InForce}
+use Rattle.protocol.specs.declared.state.Listener.{Listener}
+use Rattle.protocol.specs.declared.state.View.{View}
+use Rattle.protocol.specs.declared.table.Slot.{Slot}
+use Rattle.protocol.specs.declared.table.Scan.{Scan}
+
+-- the settings in force at a time
+abbrev pub settingsAt : Listener → ℕ → InForce
+settingsAt l t = l .settings
+
+-- the slot at a place; past the table, the free slot
+abbrev pub slotAt : Listener → ℕ → Slot
+slotAt l i = getD (l .slots) i freeSlot
+
+-- the view that a scan of the table gives
+abbrev pub viewFrom : Listener → ℕ → Scan → View
+viewFrom l t s =
+    record {
+      home = l .home;
+      untimely = isUntimely (l .clock) t;
+      settings = settingsAt l t;
+      keys = l .keys;
+      slot = slotAt l (s .place);
+      vacant = ltb (s .free) 64;
+      below = ltb (s .pending) (settingsAt l t .limit);
+    }
+
+-- the scan for a peer
+abbrev pub scanFor : Listener → ℕ → Peer → Scan
+scanFor l t p = scanOf t (block (p .address)) (p .port) (l .slots)
+
+abbrev pub view : Listener → ℕ → Peer → View
+view l t p = viewFrom l t (scanFor l t p)
+
+abbrev pub viewOf : Listener → Call → View
+viewOf l c = view l (timeOf c) (peerOf c)
+
+-- the peer's connection is in the table
+abbrev pub known : View → Bool
+known v = not (isFree (v .slot .status))
+
+-- own address, out of its block
+abbrev pub ownAddress : Home → List ℕ
+ownAddress h = take (size (h .family)) (h .own)

@@ -1,0 +1,78 @@
+// The scan that a call makes of the table, slot by slot.
+use crate::slot::free_slot;
+use crate::slot::is_live;
+use crate::slot::is_pending;
+use endpoint::address::same_name;
+use protocol::table::Scan;
+use protocol::table::Slot;
+use std::num::wrapping_add_u32;
+ghost use mathlib.Core.Path.{_≡_};
+ghost use Prim.Native.Nat.{_<_};
+ghost use Rattle.protocol.specs.Table.{holdsPeer};
+ghost use Rattle.table.specs.Scan.{firstPlace, countIf, seenWith, nothingSeen, withinTable, slotFound};
+
+// Whether the slot holds a connection of this name at the time.
+fn is_named(time: u64, b: [u8; 16], port: u16, s: Slot) -> bool
+    ensures { λ r. ⌜ r ≡ holdsPeer time b port s ⌝ }
+{
+    let status = s.status;
+    if !is_live(time, status) {
+        return false;
+    }
+    let a = s.addr;
+    same_name(s.port, port, a, b)
+}
+
+// The first place of those found so far and this one, if the test passed here.
+fn first_place(found: usize, i: usize, here: bool) -> usize
+    ensures { λ r. ⌜ r ≡ firstPlace found i here ⌝ }
+{
+    if found < 64 {
+        return found;
+    }
+    if here { i } else { found }
+}
+
+// One more if the test passed here. (A table of 64 never comes near the end of a `u32`.)
+pub fn count_if(n: u32, here: bool) -> u32
+    ensures { λ r. ⌜ r ≡ countIf n here ⌝ }
+{
+    if here { wrapping_add_u32(n, 1) } else { n }
+}
+
+// The scan goes on by one slot. Its loop stands in each call.
+pub fn look(seen: Scan, i: usize, time: u64, b: [u8; 16], port: u16, s: Slot) -> Scan
+    ensures { λ r. ⌜ r ≡ seenWith seen i time b port s ⌝ }
+{
+    let status = s.status;
+    Scan {
+        place: first_place(seen.place, i, is_named(time, b, port, s)),
+        free: first_place(seen.free, i, !is_live(time, status)),
+        pending: count_if(seen.pending, is_pending(time, status)),
+    }
+}
+
+// What is known before the first slot.
+pub fn nothing_seen() -> Scan
+    ensures { λ r. ⌜ r ≡ nothingSeen ⌝ }
+{
+    Scan {
+        place: 64,
+        free: 64,
+        pending: 0,
+    }
+}
+
+// A place that can be read: this one, or place 0 where it is past the table.
+pub fn within(i: usize) -> usize
+    ensures { λ r. ⌜ (r ≡ withinTable i) × (r < 64) ⌝ }
+{
+    if i < 64 { i } else { 0 }
+}
+
+// The peer's slot, read at its place; where there is none, the free slot.
+pub fn slot_found(i: usize, s: Slot) -> Slot
+    ensures { λ r. ⌜ r ≡ slotFound i s ⌝ }
+{
+    if i < 64 { s } else { free_slot() }
+}
