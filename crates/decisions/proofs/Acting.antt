@@ -7,12 +7,14 @@ use Rattle.segment.specs.Header.{optionArea}
 use Rattle.segment.specs.Options.{optionsOf}
 use Rattle.segment.specs.declared.header.Header.{Header}
 use Rattle.segment.specs.declared.options.Options.{Options}
-use Rattle.protocol.specs.Cookie.{cookie, found, carriedBy, cookieUnder}
+use Rattle.protocol.specs.Cookie.{cookie, found, cookieUnder}
 use Rattle.protocol.specs.Step.{cookiesRun, isEarly, isFresh, accepts, newEvent, slotAfter, freshWith}
 use Rattle.protocol.specs.declared.state.View.{View}
 use Rattle.cookie.specs.declared.OptionCheck.{OptionCheck}
 use Rattle.decisions.specs.declared.action.Action.{Action}
 use Rattle.cookie.proofs.Considering.{Considered}
+use Rattle.protocol.proofs.Openings.{early-is, fresh-is}
+use Rattle.protocol.proofs.Cookies.{carried-found}
 use Rattle.protocol.specs.declared.answer.Event.{Event}
 use Rattle.protocol.specs.declared.answer.Event.the-variants as events
 use Rattle.protocol.specs.declared.table.Slot.{Slot}
@@ -38,12 +40,10 @@ module _ (v : View) (end : ℕ) (b : List ℕ) (h : Header) (iss : ℕ) (seg : L
   module _ (o : OptionCheck) (options : Options) (area : List ℕ) (run : Bool)
       (eo : options ≡ optionsOf seg) (ea : area ≡ optionArea seg) (er : run ≡ cookiesRun v) (c : Considered run (v .keys) b (found (options .fast) area) o) where
     option-right : o .right ≡ isEarly v b seg
-    unfolding isEarly carriedBy
-    option-right = rw (sym eo, sym ea, sym er) (c .0)
+    option-right = rw (early-is v b seg, carried-found seg, sym eo, sym ea, sym er) (c .0)
 
     option-fresh : o .fresh ≡ isFresh v b seg
-    unfolding isFresh carriedBy
-    option-fresh = rw (sym eo, sym ea, sym er) (c .1 .0)
+    option-fresh = rw (fresh-is v b seg, carried-found seg, sym eo, sym ea, sym er) (c .1 .0)
 
     pub opens-early : (n : ℕ) (s : Slot) → o .right ≡ true → n ≡ accepts (v .settings) seg
         → s ≡ slotAfter v end b h iss (events.FastOpen n)

@@ -5,7 +5,7 @@ use mathlib.Core.Bool.{Bool, true, false, _||_}
 use mathlib.Core.List.{List, _++_, append-nil}
 use native.Mathlib.Omega.{arith}
 use native.Mathlib.Numerals.{unary-clauses}
-use borrow.Author.Tests.{eqb-true}
+use borrow.Author.Tests.{eqb-true, eq-eqb}
 use lib.Dec.{eqb}
 use lib.ListN.{length, take, drop, replicate, drop-of-length-le, length-replicate}
 use lib.Seq.{take-all, length-take-le}
@@ -29,14 +29,6 @@ unfolding block
 zero-block V4 = refl
 zero-block V6 = refl
 
--- an address is within its block
-pub own-most : (f : Family) (own : List ℕ) {n : ℕ} → n ≡ size f → length own ≡ 16 → n ≤ length own
-own-most V4 own e l = omega arith
-own-most V6 own e l = omega arith
-
-pub own-part : (f : Family) (own : List ℕ) {n : ℕ} → n ≡ size f → length own ≡ 16 → n ≡ length (take n own)
-own-part f own {n} e l = sym (length-take-le n own (own-most f own e l))
-
 -- Lengths of addresses
 
 pub size-most : (n : ℕ) → isSize n ≡ true → n ≤ 16
@@ -46,11 +38,29 @@ size-most n e = go (eqb n 4) refl e
     go true k q = omega (arith, eqb-true n 4 k)
     go false k q = omega (arith, eqb-true n 16 q)
 
-pub family-short : (f : Family) (a : List ℕ) → isAddress f a ≡ true → length a ≤ 16
-family-short V4 a e = omega (arith, eqb-true (length a) 4 e)
-family-short V6 a e = omega (arith, eqb-true (length a) 16 e)
+-- every family's addresses have such a length: all that is asked of a family
+pub family-size : (f : Family) → isSize (size f) ≡ true
+family-size V4 = refl
+family-size V6 = refl
 
--- such an address is not cut
+pub family-short : (f : Family) (a : List ℕ) → isAddress f a ≡ true → length a ≤ 16
+family-short f a e = omega (arith, eqb-true (length a) (size f) e, size-most (size f) (family-size f))
+
+-- two addresses of a family are of one
+pub one-size : (f : Family) (a b : List ℕ) → length a ≡ size f → length b ≡ size f → oneFamily a b ≡ true
+one-size f a b h k = rw (h, k, eq-eqb (size f) (size f) refl) (family-size f)
+
+pub one-family : (f : Family) (a b : List ℕ) → isAddress f a ≡ true → isAddress f b ≡ true → oneFamily a b ≡ true
+one-family f a b h k = one-size f a b (eqb-true (length a) (size f) h) (eqb-true (length b) (size f) k)
+
+-- an address is within its block
+pub own-most : (f : Family) (own : List ℕ) {n : ℕ} → n ≡ size f → length own ≡ 16 → n ≤ length own
+own-most f own e l = omega (arith, size-most (size f) (family-size f))
+
+pub own-part : (f : Family) (own : List ℕ) {n : ℕ} → n ≡ size f → length own ≡ 16 → n ≡ length (take n own)
+own-part f own {n} e l = sym (length-take-le n own (own-most f own e l))
+
+-- an address is not cut
 pub kept : (a : List ℕ) {r : List ℕ} → length a ≤ 16 → r ≡ block (take 16 a) → r ≡ block a
 kept a h e = e ∙ ap block (take-all 16 a h)
 
@@ -91,8 +101,3 @@ module _ (a : List ℕ) (n : ℕ) (cut : Cut a n) where
 
   pub cut-block : {r : List ℕ} → r ≡ take (length (take n a)) (take n a) ++ drop (length (take n a)) (replicate 16 0) → r ≡ block (take 16 a)
   cut-block e = copied-block (take n a) e ∙ ap block (cut .2)
-
--- two addresses of a family are of one
-pub one-family : (f : Family) (a b : List ℕ) → isAddress f a ≡ true → isAddress f b ≡ true → oneFamily a b ≡ true
-one-family V4 a b h k = rw (eqb-true (length a) 4 h, eqb-true (length b) 4 k)
-one-family V6 a b h k = rw (eqb-true (length a) 16 h, eqb-true (length b) 16 k)

@@ -3,7 +3,6 @@ use Prim.Native.Nat.{ℕ}
 use mathlib.Core.Path.{_≡_, refl}
 use mathlib.Core.Bool.{Bool, true, false}
 use mathlib.Core.List.{List}
-use native.Mathlib.Omega.{arith}
 use lib.ListN.{length, take}
 use lib.Seq.{length-take-le}
 use borrow.Author.Tests.{ltb-false, eqb-true, not-false}
@@ -17,7 +16,7 @@ use Rattle.segment.proofs.Exchange.{answer-bytes}
 use Rattle.segment.proofs.Family.{family-back, right-family}
 use Rattle.endpoint.specs.Address.{size, isAddress, block}
 use Rattle.endpoint.specs.declared.address.Family.{Family}
-use Rattle.endpoint.specs.declared.address.Family.the-variants.{V4, V6}
+use Rattle.endpoint.proofs.Blocks.{one-size, own-most}
 use Rattle.endpoint.proofs.Clear.{Passed, every-check}
 use Rattle.protocol.specs.Cookie.{cookieUnder}
 use Rattle.protocol.specs.Call.{Call, segment, resend, sender, opening, wordOf, kindOfEvent}
@@ -68,12 +67,7 @@ module _ (l : Listener) (t : ℕ) (src seg : List ℕ) (iss room : ℕ) (clear :
 
 -- a done resend writes 24 bytes
 own-family : (f : Family) (own a : List ℕ) → length own ≡ 16 → isAddress f a ≡ true → oneFamily (take (size f) own) a ≡ true
-own-family V4 own a h e =
-    let n = eqb-true (length a) 4 e in
-    rw (n, length-take-le 4 own (omega arith))
-own-family V6 own a h e =
-    let n = eqb-true (length a) 16 e in
-    rw (n, length-take-le 16 own (omega arith))
+own-family f own a h e = one-size f (take (size f) own) a (length-take-le (size f) own (own-most f own refl h)) (eqb-true (length a) (size f) e)
 
 pub resend-written : (l : Listener) (t : ℕ) (a : List ℕ) (p room : ℕ) → length (l .home .own) ≡ 16 → judged l (resend t a p room) ≡ Clear
     → step l (resend t a p room) .written ≡ 24

@@ -23,9 +23,9 @@ use Rattle.endpoint.proofs.Blocks.{family-short}
 use Rattle.endpoint.proofs.Clear.{every-check}
 use Rattle.endpoint.proofs.Chain.{stopped, passed}
 use Rattle.protocol.specs.Cookie.{cookieUnder}
-use Rattle.protocol.specs.Table.{isWaiting, scanOf}
+use Rattle.protocol.specs.Table.{isWaiting}
 use Rattle.protocol.specs.Call.{Call, segment, settings, key, abandon, resend, close, sender}
-use Rattle.protocol.specs.View.{ownAddress, view}
+use Rattle.protocol.specs.View.{ownAddress, scanFor, view}
 use Rattle.protocol.specs.Refusals.{inRange, isKey, isReleasable, releaseOf, roomy, kindChecks, wireChecks, judged}
 use Rattle.protocol.specs.Step.{segmentEvent, heldUntil, slotAfter, freshWith, answerFrom, answerTo, isAnswered, segmentOutput, segmentAfter, moved, freed, inForce, withKey, after, step, outputOf}
 use Rattle.protocol.specs.declared.state.Settings.{Settings}
@@ -171,7 +171,7 @@ module _ (l : Listener) (t : ℕ) where
       seen = view l t (sender src seg)
 
       abbrev found : Scan
-      found = scanOf t (block src) (fieldsOf seg .source) (l .slots)
+      found = scanFor l t (sender src seg)
 
       abbrev kind : Kind
       kind = kindOf (fieldsOf seg .flags)

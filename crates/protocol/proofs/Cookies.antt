@@ -1,7 +1,7 @@
 -- When a cookie is right, as an equation with FIPS 197's definition: the listener and the journal share it. And its bytes one by one. Assumes nothing.
 use Prim.Native.Nat.{ℕ, _≤_}
 use mathlib.Core.Path.{_≡_, refl, ap}
-use mathlib.Core.Bool.{true, false≢true, or-true}
+use mathlib.Core.Bool.{true, false, false≢true, or-true, and-false}
 use mathlib.Core.List.{List, [], _∷_}
 use native.Mathlib.Omega.{arith}
 use lib.ListN.{length, take, getD}
@@ -9,7 +9,7 @@ use lib.Seq.{length-take-le}
 use Rattle.cipher.specs.Cipher.{cipher}
 use Rattle.cipher.proofs.Rounds.{block-length}
 use Rattle.cipher.proofs.Bounds.{cipher-byte}
-use Rattle.lists.specs.Bytes.{Bytes}
+use Rattle.lists.specs.Bytes.{Bytes, sameBytes}
 use Rattle.segment.specs.Header.{optionArea}
 use Rattle.segment.specs.Options.{optionsOf}
 use Rattle.lists.proofs.ByteLists.{bytes-take, bytes-of, each-byte}
@@ -51,6 +51,28 @@ pub right-before : (k : Keys) (b : List ℕ) (o : Carried) → k .rotated ≡ tr
 unfolding right
 right-before k b o r e = rw (r, e) (or-true (rightUnder (k .present) b o))
 
+-- a cookie is compared with the one under a key; no other option has one
+pub cookie-compared : (w b c : List ℕ) → rightUnder w b (cookie c) ≡ sameBytes c (cookieUnder w b)
+unfolding rightUnder
+cookie-compared w b c = refl
+
+pub no-cookie : (w b : List ℕ) → (rightUnder w b nothing ≡ false) × (rightUnder w b request ≡ false)
+unfolding rightUnder
+no-cookie w b = (refl, refl)
+
+-- where it is not the present key's, the previous key decides, if there is one
+pub right-alone : (k : Keys) (b : List ℕ) (o : Carried) → rightUnder (k .present) b o ≡ false → k .rotated ≡ false → right k b o ≡ false
+unfolding right
+right-alone k b o e r = rw (e, r)
+
+pub right-else : (k : Keys) (b : List ℕ) (o : Carried) → rightUnder (k .present) b o ≡ false → k .rotated ≡ true → right k b o ≡ rightUnder (k .previous) b o
+unfolding right
+right-else k b o e r = rw (e, r)
+
+pub never-right : (k : Keys) (b : List ℕ) (o : Carried) → ((w : List ℕ) → rightUnder w b o ≡ false) → right k b o ≡ false
+unfolding right
+never-right k b o n = rw (n (k .present), n (k .previous)) (and-false (k .rotated))
+
 -- the option of a segment, from the options that were found in it
 pub carried-found : (seg : List ℕ) → carriedBy seg ≡ found (optionsOf seg .fast) (optionArea seg)
 unfolding carriedBy
@@ -69,13 +91,14 @@ eight (a ∷ b ∷ c ∷ d ∷ e ∷ f ∷ []) h = absurd (omega arith)
 eight (a ∷ b ∷ c ∷ d ∷ e ∷ f ∷ g ∷ []) h = absurd (omega arith)
 eight (a ∷ b ∷ c ∷ d ∷ e ∷ f ∷ g ∷ i ∷ xs) h = refl
 
--- the first eight bytes of an encrypted block
+-- a cookie, byte by byte from the encrypted block
 pub first-eight : (w b : List ℕ)
     → let c = cipher w b in
-    getD c 0 0 ∷ getD c 1 0 ∷ getD c 2 0 ∷ getD c 3 0 ∷ getD c 4 0 ∷ getD c 5 0 ∷ getD c 6 0 ∷ getD c 7 0 ∷ [] ≡ take 8 c
+    getD c 0 0 ∷ getD c 1 0 ∷ getD c 2 0 ∷ getD c 3 0 ∷ getD c 4 0 ∷ getD c 5 0 ∷ getD c 6 0 ∷ getD c 7 0 ∷ [] ≡ cookieUnder w b
+unfolding cookieUnder
 first-eight w b = eight (cipher w b) (omega (arith, block-length w b))
 
--- so a cookie is made of bytes, if the round keys are
+-- it is made of bytes, if the round keys are
 pub cookie-bytes : (w b : List ℕ) → Bytes w → Bytes (cookieUnder w b)
 unfolding cookieUnder
 cookie-bytes w b h = bytes-take 8 (cipher w b) (bytes-of (cipher w b) (cipher-byte w b (each-byte w h)))

@@ -18,12 +18,12 @@ use Rattle.lists.specs.Lists.{bit, tally, firstIndex}
 use Rattle.endpoint.specs.Address.{Peer, block}
 use Rattle.endpoint.specs.Checks.{isUntimely}
 use Rattle.lists.proofs.Sums.{sum-set, some-passes, first-passes, none-passes}
-use Rattle.protocol.specs.Cookie.{request, carriedBy, rightUnder, right}
+use Rattle.protocol.specs.Cookie.{request, carriedBy, counts, rightUnder, right}
 use Rattle.protocol.specs.Table.{isLive, isPending, isFree, freeSlot, newSlot, holdsPeer, freePlace, pendingAt}
 use Rattle.protocol.specs.Call.{segment, sender}
 use Rattle.protocol.specs.View.{known, view}
 use Rattle.protocol.specs.Refusals.{wireChecks, judged}
-use Rattle.protocol.specs.Step.{accepts, isEarly, isFresh, newEvent, answerTo, put, after, step}
+use Rattle.protocol.specs.Step.{cookiesRun, accepts, isEarly, isFresh, newEvent, answerTo, put, after, step}
 use Rattle.protocol.specs.declared.table.Status.{Status}
 use Rattle.protocol.specs.declared.table.Status.the-variants.{Free, SynReceived, FastOpen, ResetHeld, Established}
 use Rattle.protocol.specs.declared.table.Slot.{Slot}
@@ -91,7 +91,7 @@ newStatus true n = FastOpen n
 newStatus false n = SynReceived
 
 abbrev pub slotFor : Bool → List ℕ → List ℕ → ℕ → ℕ → Slot
-slotFor early src seg iss n = newSlot (block src) (fieldsOf seg .source) (fieldsOf seg .seq) iss (newStatus early n)
+slotFor early src seg iss n = newSlot (block src) (sender src seg .port) (fieldsOf seg .seq) iss (newStatus early n)
 
 -- its checks: those of the wire, and 8 where no place is free
 abbrev newChecks : Listener → ℕ → List ℕ → List ℕ → ℕ → Checks
@@ -108,6 +108,15 @@ pub is-early : (l : Listener) (t : ℕ) (src seg : List ℕ) → l .settings .on
     → right (l .keys) (block src) (carriedBy seg) ≡ true → isEarly (view l t (sender src seg)) (block src) seg ≡ true
 unfolding isEarly
 is-early l t src seg on below r = rw (on, lt-ltb (pendingAt t (l .slots)) (l .settings .limit) below, r)
+
+-- a new opening is early, and its answer has a fresh cookie, where cookies run and by what it carries
+pub early-is : (v : View) (b seg : List ℕ) → isEarly v b seg ≡ cookiesRun v && right (v .keys) b (carriedBy seg)
+unfolding isEarly
+early-is v b seg = refl
+
+pub fresh-is : (v : View) (b seg : List ℕ) → isFresh v b seg ≡ cookiesRun v && (counts (carriedBy seg) && not (rightUnder (v .keys .present) b (carriedBy seg)))
+unfolding isFresh
+fresh-is v b seg = refl
 
 -- a request for a cookie is not early, and gets one where Fast Open is on and pending is below the limit
 pub request-plain : (v : View) (b seg : List ℕ) → carriedBy seg ≡ request → isEarly v b seg ≡ false

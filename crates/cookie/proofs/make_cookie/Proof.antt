@@ -1,6 +1,5 @@
 -- `cookie::make_cookie` meets its contract: the first eight bytes of the block.
 -- Assumes nothing.
-use Rattle.protocol.specs.Cookie.{cookieUnder}
 use Rattle.protocol.proofs.Cookies.{first-eight}
 use borrow.Author.Needs.{needs}
 use Rattle.cookie.proofs.make_cookie.Statement.{statement}
@@ -34,7 +33,6 @@ array-read-t28 : tie.Need-array-read-t28
 array-read-t28 c = search needs
 
 returns : tie.Need-returns
-unfolding cookieUnder
 returns c = rw (c .encrypt .ensures) (first-eight _ _)
 
 pub make-cookie-spec : {M : Type 1} → statement M
