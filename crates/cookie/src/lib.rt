@@ -4,17 +4,32 @@ use protocol::state::Keys;
 use segment::options::FastOpen;
 use segment::options::cookie;
 ghost use mathlib.Core.Path.{_≡_};
+ghost use lib.ListN.{take};
 ghost use mathlib.Core.Bool.{true, false, _&&_, not};
 ghost use Rattle.lists.specs.Bytes.{sameBytes};
 ghost use Rattle.protocol.specs.Cookie.{cookieUnder, found, counts, rightUnder, right};
 ghost use Rattle.cookie.specs.Check.{cookieCheck};
 
+fn first_eight(block: [u8; 16]) -> [u8; 8]
+    ensures { λ r. ⌜ r ≡ take 8 block ⌝ }
+{
+    [
+        block[0],
+        block[1],
+        block[2],
+        block[3],
+        block[4],
+        block[5],
+        block[6],
+        block[7],
+    ]
+}
+
 // The cookie of an address, by its block, under a key's round keys.
 pub fn make_cookie(round_keys: [u8; 176], b: [u8; 16]) -> [u8; 8]
     ensures { λ r. ⌜ r ≡ cookieUnder «round_keys» b ⌝ }
 {
-    let c = encrypt(round_keys, b);
-    [c[0], c[1], c[2], c[3], c[4], c[5], c[6], c[7]]
+    first_eight(encrypt(round_keys, b))
 }
 
 // Whether these bytes are that cookie. Every byte is compared, with no early exit.

@@ -1,10 +1,10 @@
 -- When a cookie is right, as an equation with FIPS 197's definition: the listener and the journal share it. And its bytes one by one. Assumes nothing.
-use Prim.Native.Nat.{ℕ, _≤_}
+use Prim.Native.Nat.{ℕ}
 use mathlib.Core.Path.{_≡_, refl, ap}
 use mathlib.Core.Bool.{true, false, false≢true, or-true, and-false}
-use mathlib.Core.List.{List, [], _∷_}
+use mathlib.Core.List.{List}
 use native.Mathlib.Omega.{arith}
-use lib.ListN.{length, take, getD}
+use lib.ListN.{length, take}
 use lib.Seq.{length-take-le}
 use Rattle.cipher.specs.Cipher.{cipher}
 use Rattle.cipher.proofs.Rounds.{block-length}
@@ -78,25 +78,10 @@ pub carried-found : (seg : List ℕ) → carriedBy seg ≡ found (optionsOf seg 
 unfolding carriedBy
 carried-found seg = refl
 
--- the first eight of some bytes
-eight : (xs : List ℕ) → 8 ≤ length xs
-    → getD xs 0 0 ∷ getD xs 1 0 ∷ getD xs 2 0 ∷ getD xs 3 0 ∷ getD xs 4 0 ∷ getD xs 5 0 ∷ getD xs 6 0 ∷ getD xs 7 0 ∷ [] ≡ take 8 xs
-eight [] h = absurd (omega arith)
-eight (a ∷ []) h = absurd (omega arith)
-eight (a ∷ b ∷ []) h = absurd (omega arith)
-eight (a ∷ b ∷ c ∷ []) h = absurd (omega arith)
-eight (a ∷ b ∷ c ∷ d ∷ []) h = absurd (omega arith)
-eight (a ∷ b ∷ c ∷ d ∷ e ∷ []) h = absurd (omega arith)
-eight (a ∷ b ∷ c ∷ d ∷ e ∷ f ∷ []) h = absurd (omega arith)
-eight (a ∷ b ∷ c ∷ d ∷ e ∷ f ∷ g ∷ []) h = absurd (omega arith)
-eight (a ∷ b ∷ c ∷ d ∷ e ∷ f ∷ g ∷ i ∷ xs) h = refl
-
--- a cookie, byte by byte from the encrypted block
-pub first-eight : (w b : List ℕ)
-    → let c = cipher w b in
-    getD c 0 0 ∷ getD c 1 0 ∷ getD c 2 0 ∷ getD c 3 0 ∷ getD c 4 0 ∷ getD c 5 0 ∷ getD c 6 0 ∷ getD c 7 0 ∷ [] ≡ cookieUnder w b
+-- a cookie is those 8 bytes
+pub cookie-is : (w b : List ℕ) → take 8 (cipher w b) ≡ cookieUnder w b
 unfolding cookieUnder
-first-eight w b = eight (cipher w b) (omega (arith, block-length w b))
+cookie-is w b = refl
 
 -- it is made of bytes, if the round keys are
 pub cookie-bytes : (w b : List ℕ) → Bytes w → Bytes (cookieUnder w b)

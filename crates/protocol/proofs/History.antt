@@ -280,7 +280,9 @@ module _ (l : Listener) (j : Journal) (t : ℕ) (a : Agrees l j) (forward : l .c
     opening-follows true e free =
         -- a repeat's slot is put back as it was
         let same = set-getD (l .slots) (scanFor l t (sender src seg) .place) freeSlot in
-        quiet refl (subst (λ s. Agrees (moved l t s) (atTime t j)) (sym same) (moved-agrees l j t (l .slots) (atTime t j .entries) a unchanged))
+        let stays : Agrees (put l t (scanFor l t (sender src seg) .place) (view l t (sender src seg) .slot)) (atTime t j) =
+        subst (λ s. Agrees (moved l t s) (atTime t j)) (sym same) (moved-agrees l j t (l .slots) (atTime t j .entries) a unchanged) in
+        quiet {e = events.Retransmission} refl stays
     opening-follows false e free = rw (early-same (sender src seg) src seg) (new-follows e free (opensEarly (atTime t j) src seg))
 
     by-kind : (k : Kind) → Passed (kindChecks (view l t (sender src seg)) (fieldsOf seg) k)

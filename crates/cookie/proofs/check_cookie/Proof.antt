@@ -1,11 +1,25 @@
 -- `cookie::check_cookie` meets its contract: by the key that its cookie is under.
 -- Assumes nothing.
-use mathlib.Core.Path.{sym, _∙_}
+use mathlib.Core.Path.{_≡_, sym, _∙_}
+use mathlib.Core.Bool.{false}
 use borrow.Author.Tests.{not-true, not-false}
+use Rattle.lists.specs.Bytes.{sameBytes}
 use Rattle.cookie.proofs.Considering.{cookie-present, cookie-alone, cookie-previous}
 use borrow.Author.Needs.{needs}
 use Rattle.cookie.proofs.check_cookie.Statement.{statement}
 use Rattle.cookie.proofs.check_cookie.Tie as tie
+
+-- The cookie under the present key is made
+abbrev entry : tie.After-make-cookie → tie.Start
+entry c = c .before .before .before
+
+-- It is not the one that was given
+module _ (c : tie.Else1) where
+  abbrev made : tie.After-make-cookie
+  made = c .before .before
+
+  other : sameBytes (entry made .args .given .now) (made .make-cookie .result) ≡ false
+  other = sym (c .before .is-cookie .ensures) ∙ c .if1 .left
 
 make-cookie-requires : tie.Need-make-cookie-requires
 make-cookie-requires c κs = search needs
@@ -18,16 +32,19 @@ checked-requires c κs = search needs
 
 returns : tie.Need-returns
 returns c =
-    let a = c .before .before .before .before .before .before .args in
-    c .checked .ensures ∙ cookie-present (a .keys) (a .b) (a .given .now) (c .before .before .before .make-cookie .ensures) (sym (c .before .before .is-cookie .ensures) ∙ c .before .if1 .taken)
+    let compared = c .before .before in
+    let new = compared .before in
+    let a = entry new .args in
+    rw (c .checked .ensures) (cookie-present (a .keys) (a .b) (a .given .now) (new .make-cookie .ensures) (sym (compared .is-cookie .ensures) ∙ c .before .if1 .taken))
 
 checked-requires-2 : tie.Need-checked-requires-2
 checked-requires-2 c κs = search needs
 
 returns-2 : tie.Need-returns-2
 returns-2 c =
-    let a = c .before .before .before .before .before .before .before .before .args in
-    c .checked2 .ensures ∙ cookie-alone (a .keys) (a .b) (a .given .now) (c .before .before .before .before .before .make-cookie .ensures) (sym (c .before .before .before .before .is-cookie .ensures) ∙ c .before .before .before .if1 .left) (not-true _ (c .before .if2 .taken))
+    let p = c .before .before .before in
+    let a = entry (made p) .args in
+    rw (c .checked2 .ensures) (cookie-alone (a .keys) (a .b) (a .given .now) (made p .make-cookie .ensures) (other p) (not-true _ (c .before .if2 .taken)))
 
 make-cookie-requires-2 : tie.Need-make-cookie-requires-2
 make-cookie-requires-2 c κs = search needs
@@ -40,8 +57,11 @@ checked-requires-3 c κs = search needs
 
 returns-3 : tie.Need-returns-3
 returns-3 c =
-    let a = c .before .before .before .before .before .before .before .before .before .before .before .args in
-    c .checked3 .ensures ∙ cookie-previous (a .keys) (a .b) (a .given .now) (c .before .before .before .before .before .before .before .before .make-cookie .ensures) (sym (c .before .before .before .before .before .before .before .is-cookie .ensures) ∙ c .before .before .before .before .before .before .if1 .left) (not-false _ (c .before .before .before .before .if2 .left)) (c .before .before .make-cookie2 .ensures) (c .before .is-cookie2 .ensures)
+    let rotated = c .before .before .before .before in
+    let p = rotated .before .before in
+    let a = entry (made p) .args in
+    rw (c .checked3 .ensures)
+    (cookie-previous (a .keys) (a .b) (a .given .now) (made p .make-cookie .ensures) (other p) (not-false _ (rotated .if2 .left)) (c .before .before .make-cookie2 .ensures) (c .before .is-cookie2 .ensures))
 
 pub check-cookie-spec : {M : Type 1} → statement M
 check-cookie-spec =
