@@ -15,7 +15,11 @@ pub fn next_after(initial: u32, bytes: u32) -> u32
 pub fn in_window(expected: u32, seq: u32) -> bool
     ensures { λ r. ⌜ r ≡ inWindow expected seq ⌝ }
 {
-    wrapping_sub_u32(seq, expected) < 65535
+    let past = wrapping_sub_u32(seq, expected);
+    if 65535 <= past {
+        return false;
+    }
+    true
 }
 
 // How many bytes sent with an opening its answer acknowledges. (More than were sent is for the caller to refuse.)
