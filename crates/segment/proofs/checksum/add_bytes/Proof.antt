@@ -1,8 +1,10 @@
 -- `segment::checksum::add_bytes` meets its contract: the sum goes on after each run.
 -- Assumes nothing.
-use Prim.Native.Nat.{_+_, _-_, _≤_}
+use Prim.Native.Nat.{ℕ, _+_, _-_, _%_, _≤_}
 use mathlib.Core.Path.{_≡_, refl, sym, _∙_}
+use mathlib.Core.List.{List}
 use native.Mathlib.Omega.{arith}
+use native.Mathlib.Nat.{add-sub-cancel-left}
 use lib.ListN.{length, take, drop, length-drop}
 use lib.Seq.{take-all}
 use Rattle.segment.specs.Checksum.{onesSum}
@@ -10,6 +12,11 @@ use Rattle.segment.proofs.Sums.{run-on}
 use borrow.Author.Needs.{needs}
 use Rattle.segment.proofs.checksum.add_bytes.Statement.{statement}
 use Rattle.segment.proofs.checksum.add_bytes.Tie as tie
+
+-- the sum of a run, of an even number of bytes, goes on to the sum of all
+goes-on : (acc run : ℕ) (s : List ℕ) (i len all : ℕ) → run ≡ onesSum acc (take (i + len - i) (drop i s)) → onesSum acc (drop i s) ≡ all
+    → len % 2 ≡ 0 → i + len ≤ length s → onesSum run (drop (i + len) s) ≡ all
+goes-on acc run s i len all e r even h = rw (e, add-sub-cancel-left i len) (sym (run-on acc s i len h even) ∙ r)
 
 abbrev Inv-loop : tie.InvT-loop
 Inv-loop sum s n acc₀ i₀ acc i = (n ≡ length s) × ((i ≤ n) × (onesSum acc (drop i s) ≡ onesSum sum s))
@@ -45,9 +52,7 @@ loop-again : tie.Need-loop-again Inv-loop μ-loop
 loop-again c =
     let q = c .before .before .before .loop in
     let s = c .before .before .before .before .before .args .s .now in
-    let k : q .i + 65536 - q .i ≡ 65536 = omega arith in
-    let e = run-on (q .acc) s (q .i) 65536 (omega arith) refl in
-    (refl, (omega arith, rw (c .add-run .ensures, k) (sym e ∙ q .inv .1 .1)))
+    (refl, (omega arith, goes-on (q .acc) _ s (q .i) _ _ (c .add-run .ensures) (q .inv .1 .1) refl (omega arith)))
 
 sub-add-run-2 : tie.Need-sub-add-run-2 Inv-loop μ-loop
 sub-add-run-2 c = search needs

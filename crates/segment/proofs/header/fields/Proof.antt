@@ -25,7 +25,9 @@ shared-slice-read-t10 c = search needs
 
 returns : tie.Need-returns
 unfolding fieldsOf
-returns c = cc
+returns c =
+    let d = c .before .before in
+    rw (d .before .before .before .word-at .ensures, d .before .before .word-at2 .ensures, d .before .long-at .ensures, d .long-at2 .ensures)
 
 pub fields-spec : {M : Type 1} → statement M
 fields-spec =

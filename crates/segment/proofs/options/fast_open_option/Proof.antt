@@ -1,7 +1,10 @@
 -- `segment::options::fast_open_option` meets its contract: one case for each way out.
 -- Assumes nothing.
+use Prim.Native.Nat.{_-_}
 use mathlib.Core.Path.{sym, _∙_}
+use native.Mathlib.Omega.{arith}
 use borrow.Author.Tests.{eq-eqb, ne-eqb}
+use Rattle.segment.specs.Bytes.{byteAt}
 use Rattle.segment.specs.Options.{cookieAt, fastOpenOption}
 use borrow.Author.Needs.{needs}
 use Rattle.segment.proofs.options.fast_open_option.Statement.{statement}
@@ -15,7 +18,9 @@ sub-n c = search needs
 
 returns : tie.Need-returns
 unfolding fastOpenOption cookieAt
-returns c = simp (eq-eqb _ _ (c .before .if1 .taken), eq-eqb _ _ (c .if2 .taken))
+returns c =
+    let a = c .before .before .before .before .args in
+    simp (eq-eqb (byteAt (a .area .now) (a .i)) 34 (omega arith), eq-eqb (a .len - 2) 0 (omega arith))
 
 is-cookie-length-requires : tie.Need-is-cookie-length-requires
 is-cookie-length-requires c κs = search needs
@@ -25,15 +30,21 @@ add-t10 c = search needs
 
 returns-2 : tie.Need-returns-2
 unfolding fastOpenOption cookieAt
-returns-2 c = simp (eq-eqb _ _ (c .before .before .before .if1 .taken), ne-eqb _ _ (c .before .before .if2 .left), sym (c .before .is-cookie-length .ensures) ∙ c .if3 .taken)
+returns-2 c =
+    let a = c .before .before .before .before .before .before .args in
+    simp (eq-eqb (byteAt (a .area .now) (a .i)) 34 (omega arith), ne-eqb (a .len - 2) 0 (λ e. omega arith), sym (c .before .is-cookie-length .ensures) ∙ c .if3 .taken)
 
 returns-3 : tie.Need-returns-3
 unfolding fastOpenOption cookieAt
-returns-3 c = simp (eq-eqb _ _ (c .before .before .before .if1 .taken), ne-eqb _ _ (c .before .before .if2 .left), sym (c .before .is-cookie-length .ensures) ∙ c .if3 .left)
+returns-3 c =
+    let a = c .before .before .before .before .before .before .args in
+    simp (eq-eqb (byteAt (a .area .now) (a .i)) 34 (omega arith), ne-eqb (a .len - 2) 0 (λ e. omega arith), sym (c .before .is-cookie-length .ensures) ∙ c .if3 .left)
 
 returns-4 : tie.Need-returns-4
 unfolding fastOpenOption
-returns-4 c = simp (ne-eqb _ _ (c .if1 .left))
+returns-4 c =
+    let a = c .before .before .before .args in
+    simp (ne-eqb (byteAt (a .area .now) (a .i)) 34 (λ e. omega arith))
 
 pub fast-open-option-spec : {M : Type 1} → statement M
 fast-open-option-spec =

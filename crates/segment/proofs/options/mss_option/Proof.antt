@@ -1,6 +1,8 @@
--- `segment::options::mss_option` meets its contract.
+-- `segment::options::mss_option` meets its contract: one case for each way out.
 -- Assumes nothing.
+use native.Mathlib.Omega.{arith}
 use borrow.Author.Tests.{eq-eqb, ne-eqb}
+use Rattle.segment.specs.Bytes.{byteAt}
 use Rattle.segment.specs.Options.{mssOption}
 use borrow.Author.Needs.{needs}
 use Rattle.segment.proofs.options.mss_option.Statement.{statement}
@@ -17,15 +19,21 @@ word-at-requires c κs = search needs
 
 returns : tie.Need-returns
 unfolding mssOption
-returns c = simp (eq-eqb _ _ (c .before .before .if1 .taken), eq-eqb _ _ (c .before .if2 .taken), c .word-at .ensures)
+returns c =
+    let a = c .before .before .before .before .before .args in
+    simp (eq-eqb (byteAt (a .area .now) (a .i)) 2 (omega arith), eq-eqb (a .len) 4 (omega arith), c .word-at .ensures)
 
 returns-2 : tie.Need-returns-2
 unfolding mssOption
-returns-2 c = simp (eq-eqb _ _ (c .before .if1 .taken), ne-eqb _ _ (c .if2 .left))
+returns-2 c =
+    let a = c .before .before .before .before .args in
+    simp (eq-eqb (byteAt (a .area .now) (a .i)) 2 (omega arith), ne-eqb (a .len) 4 (λ e. omega arith))
 
 returns-3 : tie.Need-returns-3
 unfolding mssOption
-returns-3 c = simp (ne-eqb _ _ (c .if1 .left))
+returns-3 c =
+    let a = c .before .before .before .args in
+    simp (ne-eqb (byteAt (a .area .now) (a .i)) 2 (λ e. omega arith))
 
 pub mss-option-spec : {M : Type 1} → statement M
 mss-option-spec =

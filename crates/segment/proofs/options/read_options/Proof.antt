@@ -29,8 +29,9 @@ shared-slice-read-kind c = search needs
 returns : tie.Need-returns Inv-loop μ-loop
 returns c =
     let q = c .before .before .before .loop in
-    let e = one-step (c .before .before .before .before .before .args .area .now) (q .i) (q .found) (omega arith) in
-    sym (simp (eq-eqb _ _ (c .if1 .taken)) at e) ∙ q .inv .1 .1
+    let s = c .before .before .before .before .before .args .area .now in
+    let e = one-step s (q .i) (q .found) (omega arith) in
+    sym (simp (eq-eqb (byteAt s (q .i)) 0 (omega arith)) at e) ∙ q .inv .1 .1
 
 add-i : tie.Need-add-i Inv-loop μ-loop
 add-i c = search needs
@@ -41,8 +42,10 @@ loop-less c = search needs
 loop-again : tie.Need-loop-again Inv-loop μ-loop
 loop-again c =
     let q = c .before .before .before .before .loop in
-    let e = one-step (c .before .before .before .before .before .before .args .area .now) (q .i) (q .found) (omega arith) in
-    (refl, (search needs, sym (simp (ne-eqb _ _ (c .before .if1 .left), eq-eqb _ _ (c .if2 .taken)) at e) ∙ q .inv .1 .1))
+    let s = c .before .before .before .before .before .before .args .area .now in
+    let k = byteAt s (q .i) in
+    let e = one-step s (q .i) (q .found) (omega arith) in
+    (refl, (search needs, sym (simp (ne-eqb k 0 (λ z. omega arith), eq-eqb k 1 (omega arith)) at e) ∙ q .inv .1 .1))
 
 sub-if3 : tie.Need-sub-if3 Inv-loop μ-loop
 sub-if3 c = search needs
@@ -67,8 +70,9 @@ cast-len c = omega (arith, c .shared-slice-known3 .given (c .before .before .bef
 returns-3 : tie.Need-returns-3 Inv-loop μ-loop
 returns-3 c =
     let q = c .before .before .before .before .before .before .before .loop in
-    let e = one-step (c .before .before .before .before .before .before .before .before .before .args .area .now) (q .i) (q .found) (omega arith) in
-    sym (simp (ne-eqb _ _ (c .before .before .before .before .if1 .left), ne-eqb _ _ (c .before .before .before .if2 .left), lt-leb _ _ (c .if4 .taken)) at e) ∙ q .inv .1 .1
+    let s = c .before .before .before .before .before .before .before .before .before .args .area .now in
+    let e = one-step s (q .i) (q .found) (omega arith) in
+    sym (simp (ne-eqb _ _ (c .before .before .before .before .if1 .left), ne-eqb _ _ (c .before .before .before .if2 .left), lt-leb 2 (byteAt s (q .i + 1)) (omega arith)) at e) ∙ q .inv .1 .1
 
 sub-if5 : tie.Need-sub-if5 Inv-loop μ-loop
 sub-if5 c = search needs
@@ -76,11 +80,19 @@ sub-if5 c = search needs
 returns-4 : tie.Need-returns-4 Inv-loop μ-loop
 returns-4 c =
     let q = c .before .before .before .before .before .before .before .before .loop in
-    let e = one-step (c .before .before .before .before .before .before .before .before .before .before .args .area .now) (q .i) (q .found) (omega arith) in
-    sym (simp (ne-eqb _ _ (c .before .before .before .before .before .if1 .left), ne-eqb _ _ (c .before .before .before .before .if2 .left), le-leb _ _ (c .before .if4 .left), lt-leb _ _ (c .if5 .taken)) at e) ∙ q .inv .1 .1
+    let s = c .before .before .before .before .before .before .before .before .before .before .args .area .now in
+    let l = byteAt s (q .i + 1) in
+    let e = one-step s (q .i) (q .found) (omega arith) in
+    sym (simp (ne-eqb _ _ (c .before .before .before .before .before .if1 .left), ne-eqb _ _ (c .before .before .before .before .if2 .left), le-leb 2 l (omega arith), lt-leb l (length s - q .i) (omega arith)) at e) ∙ q .inv .1 .1
 
 with-option-requires : tie.Need-with-option-requires Inv-loop μ-loop
-with-option-requires c κs = search needs
+with-option-requires c κs =
+    let q = c .before .before .before .before .before .before .before .before .loop in
+    let s = c .before .before .before .before .before .before .before .before .before .before .args .area .now in
+    let l = byteAt s (q .i + 1) in
+    let least : 2 ≤ l = omega arith in
+    let fits : q .i + l ≤ length s = omega arith in
+    (least, fits)
 
 add-i-2 : tie.Need-add-i-2 Inv-loop μ-loop
 add-i-2 c = search needs
@@ -93,8 +105,9 @@ loop-again-2 c =
     let q = c .before .before .before .before .before .before .before .before .before .loop in
     let s = c .before .before .before .before .before .before .before .before .before .before .before .args .area .now in
     let e = one-step s (q .i) (q .found) (omega arith) in
-    let g = simp (ne-eqb _ _ (c .before .before .before .before .before .before .if1 .left), ne-eqb _ _ (c .before .before .before .before .before .if2 .left), le-leb _ _ (c .before .before .if4 .left), le-leb _ _ (c .before .if5 .left)) at e in
-    let p : q .i + 1 + (byteAt s (q .i + 1) - 1) ≡ q .i + byteAt s (q .i + 1) = omega arith in
+    let l = byteAt s (q .i + 1) in
+    let g = simp (ne-eqb _ _ (c .before .before .before .before .before .before .if1 .left), ne-eqb _ _ (c .before .before .before .before .before .if2 .left), le-leb 2 l (omega arith), le-leb l (length s - q .i) (omega arith)) at e in
+    let p : q .i + 1 + (l - 1) ≡ q .i + l = omega arith in
     (refl, (omega arith, cc))
 
 returns-5 : tie.Need-returns-5 Inv-loop μ-loop

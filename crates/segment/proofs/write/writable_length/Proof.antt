@@ -1,5 +1,6 @@
 -- `segment::write::writable_length` meets its contract: one case for each test of `canWrite`.
 -- Assumes nothing.
+use mathlib.Core.Bool.{and-false}
 use native.Mathlib.Omega.{arith}
 use Prim.Native.Nat.{_≤_, _<_}
 use mathlib.Core.Path.{sym, _∙_}
@@ -51,9 +52,8 @@ returns-4 c =
     let a = c .before .before .before .before .before .before .before .before .before .before .args in
     let f = sym (c .before .before .before .before .before .is-one-family .ensures) ∙ not-false _ (c .before .before .before .before .if1 .left) in
     let k = is-allowed (a .f .mss) (a .f .fast) (a .cookie .now) _ (c .before .before .before .option-length .ensures .0) (c .before .before .if2 .left) in
-    let h : lengthFor (a .f) (a .cookie .now) (a .payload .now) ≤ 1520 = omega arith in
     let l : a .room < lengthFor (a .f) (a .cookie .now) (a .payload .now) = omega arith in
-    rw (f, k .0, le-leb _ _ h, lt-leb _ _ l)
+    rw (f, k .0, lt-leb _ _ l, and-false)
 
 returns-5 : tie.Need-returns-5
 unfolding canWrite

@@ -1,9 +1,25 @@
 -- `segment::write::write_answer` meets its contract.
 -- Assumes nothing.
-use Rattle.segment.specs.Write.{answerBytes}
+use Prim.Native.Nat.{ℕ, _+_}
+use mathlib.Core.Path.{_≡_, ap}
+use mathlib.Core.List.{List, []}
+use lib.ListN.{length}
+use Rattle.segment.specs.Header.{SYN, ACK}
+use Rattle.segment.specs.Write.{written, overwrite, answerFields, answerBytes}
+use Rattle.segment.specs.declared.write.Outgoing.{Outgoing}
+use Rattle.segment.specs.declared.write.Answer.{Answer}
 use borrow.Author.Needs.{needs}
 use Rattle.segment.proofs.write.write_answer.Statement.{statement}
 use Rattle.segment.proofs.write.write_answer.Tie as tie
+
+-- what is written is an answer if its fields are an answer's
+abbrev Wrote : List ℕ → List ℕ → ℕ → List ℕ → Type 0
+Wrote bytes out n end = (n ≡ length bytes) × (end ≡ overwrite bytes out)
+
+answer : (src dst cookie out end : List ℕ) (a : Answer) (f : Outgoing) (n : ℕ) → Wrote (written src dst f cookie [] (length out)) out n end
+    → f ≡ answerFields a → Wrote (answerBytes src dst a cookie (length out)) out n end
+unfolding answerBytes
+answer src dst cookie out end a f n w e = rw e at w
 
 next-after-requires : tie.Need-next-after-requires
 next-after-requires c κs = search needs
@@ -24,8 +40,12 @@ same-length : tie.Need-same-length
 same-length c = search needs
 
 returns : tie.Need-returns
-unfolding answerBytes
-returns c = rw (c .before .before .before .before .before .before .next-after .ensures) at (c .before .before .write-segment .ensures)
+returns c =
+    let d = c .before .before .before .before .before .before in
+    let r = d .before .before .before .before .args in
+    let a = r .a in
+    answer (r .src .now) (r .dst .now) _ (r .out .now) _ a _ _ (c .before .before .write-segment .ensures)
+    (ap (λ (k : ℕ). record { source = a .source; dest = a .dest; seq = a .iss; ack = k; flags = SYN + ACK; mss = a .mss; fast = a .fresh }) (d .next-after .ensures))
 
 pub write-answer-spec : {M : Type 1} → statement M
 write-answer-spec =
