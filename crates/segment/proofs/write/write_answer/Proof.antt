@@ -5,7 +5,8 @@ use mathlib.Core.Path.{_≡_, ap}
 use mathlib.Core.List.{List, []}
 use lib.ListN.{length}
 use Rattle.segment.specs.Header.{SYN, ACK}
-use Rattle.segment.specs.Write.{written, overwrite, answerFields, answerBytes}
+use Rattle.segment.specs.Write.{written, answerFields, answerBytes}
+use Rattle.lists.specs.Bytes.{overwrite}
 use Rattle.segment.specs.declared.write.Outgoing.{Outgoing}
 use Rattle.segment.specs.declared.write.Answer.{Answer}
 use borrow.Author.Needs.{needs}
