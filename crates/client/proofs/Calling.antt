@@ -1,7 +1,7 @@
--- What each call answers, refused and done, from what its checks come to. Assumes nothing.
+-- What the start and each call answer, refused and done, from what the checks come to. Assumes nothing.
 use Prim.Native.Nat.{ℕ, _≤_, _^_}
 use mathlib.Core.Path.{_≡_, refl, sym, ap, _∙_}
-use mathlib.Core.Bool.{Bool}
+use mathlib.Core.Bool.{Bool, true, false}
 use mathlib.Core.List.{List, [], _++_}
 use native.Mathlib.Omega.{arith}
 use lib.ListN.{length, take}
@@ -10,19 +10,22 @@ use Rattle.segment.specs.Refusal.{Checks, refusal}
 use Rattle.segment.specs.Header.{fieldsOf}
 use Rattle.lists.specs.Bytes.{overwrite}
 use Rattle.segment.specs.Write.{openingBytes}
+use Rattle.segment.specs.declared.options.Mss.{Mss}
 use Rattle.segment.specs.declared.refusal.Refusal.{Refusal}
+use Rattle.segment.specs.declared.refusal.Refusal.the-variants.{Address}
 use Rattle.segment.specs.declared.refusal.Check.{Check}
 use Rattle.segment.specs.declared.refusal.Check.the-variants.{Clear, Refused}
-use Rattle.endpoint.specs.Address.{block}
+use Rattle.endpoint.specs.Address.{isSize, familyOf, block}
 use Rattle.endpoint.specs.Checks.{isUntimely, timely, addressed}
+use Rattle.endpoint.specs.declared.address.Family.{Family}
 use Rattle.endpoint.proofs.Blocks.{family-short, kept}
 use Rattle.endpoint.proofs.Chain.{time-most, named-short}
 use Rattle.endpoint.proofs.Clear.{every-check}
-use Rattle.client.specs.Cache.{cookieLength, entryFor}
-use Rattle.client.specs.Bans.{isBanned, addBan}
+use Rattle.client.specs.Cache.{cookieLength, entryFor, withCache}
+use Rattle.client.specs.Bans.{isBanned, addBan, withBans}
 use Rattle.client.specs.Call.{Call, connect, answer, failed}
 use Rattle.client.specs.Refusals.{countIn, openChecks, answerChecks, judged, judgedReply}
-use Rattle.client.specs.Step.{openingFor, sentWith, cookieIn, mssIn, cacheAfter, isUnacknowledged, bansAfter, moved, after, doneEvent, doneOutput, outcomeOf, step, outputIf, outputOf}
+use Rattle.client.specs.Step.{blank, neverStarted, startOf, openingFor, sentWith, cookieIn, mssIn, cacheAfter, isUnacknowledged, bansAfter, moved, after, doneEvent, doneOutput, outcomeOf, step, outputIf, outputOf}
 use Rattle.client.specs.declared.answer.ActiveOpen.{ActiveOpen}
 use Rattle.client.specs.declared.answer.Attempt.{Attempt}
 use Rattle.client.specs.declared.answer.Event.the-variants as events
@@ -35,6 +38,17 @@ use Rattle.client.proofs.Reading.{mss-most}
 
 abbrev pub refusedWith : Memory → Refusal → Outcome
 refusedWith m r = record { memory = m; event = events.Refused r; written = 0 }
+
+-- The start
+
+module _ (n : ℕ) {right : Bool} (size : right ≡ isSize n) where
+  pub start-refused : right ≡ false → {m : Memory} → m ≡ neverStarted → record { memory = m; check = Refused Address } ≡ startOf n
+  unfolding startOf
+  start-refused k e = rw (sym size ∙ k, e)
+
+  pub start-done : right ≡ true → {f : Family} {m : Memory} → f ≡ familyOf n → m ≡ blank true f → record { memory = m; check = Clear } ≡ startOf n
+  unfolding startOf
+  start-done k ef e = rw (sym size ∙ k, e, ef)
 
 -- A call is refused or done
 
@@ -61,7 +75,7 @@ module _ (m : Memory) (t : ℕ) (own server : List ℕ) (o : ActiveOpen) (offere
   abbrev opening : Call
   opening = connect t own server o offered (length out)
 
-  abbrev Open : Check
+  abbrev pub Open : Check
   Open = refusal (openChecks (m .started) (m .family) (isUntimely (m .clock) t) own server (o .mss) (length out))
 
   open-judged : judged m opening ≡ Open
@@ -83,7 +97,7 @@ module _ (m : Memory) (t : ℕ) (own server : List ℕ) (o : ActiveOpen) (offere
         let p = every-check (openChecks (m .started) (m .family) (isUntimely (m .clock) t) own server (o .mss) (length out)) clear in
         mss-most (o .mss) (not-false _ (p .1 .1 .1 .1 .1 .0))
 
-    module _ (b : List ℕ) (bn : Bool) (e : Entry) (n len w : ℕ) (next : Memory) (out′ : List ℕ) where
+    module _ {b : List ℕ} {bn : Bool} {e : Entry} {n len w : ℕ} {next : Memory} {out′ : List ℕ} where
       pub open-done : b ≡ block server → bn ≡ isBanned t b (o .dest) (m .bans) → e ≡ entryFor b (m .cache) → n ≡ sentWith (m .family) bn e (length offered)
           → len ≡ cookieLength e
           → w ≡ length (openingBytes own server (openingFor bn o) (take len (e .cookie)) (take n offered) (length out))
@@ -138,13 +152,15 @@ module _ (m : Memory) (t : ℕ) (own server : List ℕ) (a : Attempt) (seg : Lis
     pub answer-time : t ≤ 2 ^ 48
     answer-time = time-most (m .clock) t (every-check theChecks clear .1 .0)
 
-    pub answer-done : (next : Memory)
-        → next ≡ moved m t (cacheAfter (block server) (cookieIn seg) (mssIn seg) (m .cache)) (bansAfter t (block server) (a .dest) (isUnacknowledged (a .sent) n) (m .bans))
-        → record { memory = next; event = events.Answered n; written = 0 } ≡ step m answering
-    unfolding after
-    answer-done next e =
-        let done = step-done m answering (answer-judged ∙ clear) in
-        rw (e, was-counted (refusal theChecks) a seg said .1) (sym done)
+    module _ {b cookie : List ℕ} {mss : Mss} {at known next : Memory} where
+      pub answer-done : at ≡ moved m t (m .cache) (m .bans) → b ≡ block server → cookie ≡ cookieIn seg → mss ≡ mssIn seg
+          → known ≡ withCache at (cacheAfter b cookie mss (at .cache))
+          → next ≡ withBans known (bansAfter t b (a .dest) (isUnacknowledged (a .sent) n) (known .bans))
+          → record { memory = next; event = events.Answered n; written = 0 } ≡ step m answering
+      unfolding after
+      answer-done et eb ec es ek en =
+          let done = step-done m answering (answer-judged ∙ clear) in
+          rw (en, ek, et, ec, es, eb, was-counted (refusal theChecks) a seg said .1) (sym done)
 
 -- Failure
 
@@ -152,7 +168,7 @@ module _ (m : Memory) (t : ℕ) (server : List ℕ) (port : ℕ) where
   abbrev failing : Call
   failing = failed t server port
 
-  abbrev Named : Check
+  abbrev pub Named : Check
   Named = refusal (timely (m .started) (isUntimely (m .clock) t) ++ addressed (m .family) server)
 
   failed-judged : judged m failing ≡ Named
@@ -169,7 +185,8 @@ module _ (m : Memory) (t : ℕ) (server : List ℕ) (port : ℕ) where
     pub failed-time : t ≤ 2 ^ 48
     failed-time = time-most (m .clock) t (every-check (timely (m .started) (isUntimely (m .clock) t) ++ addressed (m .family) server) clear .1 .0)
 
-    pub failed-done : (next : Memory) → next ≡ moved m t (m .cache) (addBan t (block server) port (m .bans))
-        → record { memory = next; event = events.Reported; written = 0 } ≡ step m failing
-    unfolding after
-    failed-done next e = rw e (sym (step-done m failing (failed-judged ∙ clear)))
+    module _ {b : List ℕ} {banned next : Memory} where
+      pub failed-done : b ≡ block server → banned ≡ withBans m (addBan t b port (m .bans)) → next ≡ moved banned t (banned .cache) (banned .bans)
+          → record { memory = next; event = events.Reported; written = 0 } ≡ step m failing
+      unfolding after
+      failed-done eb es en = rw (en, es, eb) (sym (step-done m failing (failed-judged ∙ clear)))

@@ -3,13 +3,13 @@ use Prim.Native.Nat.{ℕ, _≤_, _<_}
 use mathlib.Core.Path.{_≡_, refl, sym, ap, _∙_}
 use mathlib.Core.Bool.{Bool, true, false, cond, not, _||_}
 use mathlib.Core.List.{List, [], _∷_, _++_}
-use lib.Dec.{ltb}
-use borrow.Author.Tests.{lt-ltb, le-ltb}
+use lib.Dec.{ltb, leb, eqb}
+use borrow.Author.Tests.{lt-ltb, le-ltb, lt-leb, le-leb, eq-eqb, ne-eqb}
 use Rattle.segment.specs.Refusal.{refusal}
-use Rattle.segment.specs.Header.{shapeOf, fieldsOf}
+use Rattle.segment.specs.Header.{shapeOf, fieldsOf, synAck}
 use Rattle.segment.specs.Checksum.{checksumRight}
 use Rattle.segment.specs.declared.refusal.Refusal.{Refusal}
-use Rattle.segment.specs.declared.refusal.Refusal.the-variants.{Format, Address, Checksum, Port, Output, Range}
+use Rattle.segment.specs.declared.refusal.Refusal.the-variants.{Format, Address, Checksum, Port, Flags, Sequence, Output, Range}
 use Rattle.segment.specs.declared.refusal.Check.{Check}
 use Rattle.segment.specs.declared.refusal.Check.the-variants.{Clear, Refused}
 use Rattle.segment.specs.declared.header.Header.{Header}
@@ -19,10 +19,10 @@ use Rattle.endpoint.specs.Address.{isAddress}
 use Rattle.endpoint.specs.Checks.{timely, addressed}
 use Rattle.endpoint.specs.declared.address.Family.{Family}
 use Rattle.endpoint.proofs.Chain.{andThen, chain, chain-into, chain-then, stopped, passed, only, timed}
-use Rattle.client.specs.Refusals.{isMss, isBetween, pairChecks, openChecks, wireChecks, replyChecks, answerChecks, judgedReply}
+use Rattle.client.specs.Refusals.{isMss, isBetween, countIn, pairChecks, openChecks, wireChecks, replyChecks, answerChecks, judgedReply}
 use Rattle.client.specs.declared.answer.Attempt.{Attempt}
 use Rattle.client.specs.declared.checks.Reply.{Reply}
-use Rattle.client.specs.declared.checks.Reply.the-variants.{Dropped}
+use Rattle.client.specs.declared.checks.Reply.the-variants.{Dropped, Acknowledged}
 
 -- Both addresses
 
@@ -113,6 +113,49 @@ module _ (started untimely : Bool) (f : Family) (own server : List ℕ) where
 
     pub answer-passed : Pair ≡ Clear → judgedReply Segment a (fieldsOf seg) ≡ judgedReply Answer a (fieldsOf seg)
     answer-passed e = said (sym (passed _ _ _ answer-check e))
+
+-- Own MSS
+
+module _ (mss : ℕ) where
+  pub mss-low : mss < 536 → false ≡ isMss mss
+  unfolding isMss
+  mss-low h = rw (lt-leb _ _ h)
+
+  pub mss-rest : 536 ≤ mss → leb mss 1460 ≡ isMss mss
+  unfolding isMss
+  mss-rest h = rw (le-leb _ _ h)
+
+-- The ports
+
+module _ (a : Attempt) (h : Header) where
+  pub elsewhere : (h .source ≡ a .dest → ⊥) → false ≡ isBetween a h
+  unfolding isBetween
+  elsewhere k = rw (ne-eqb _ _ k)
+
+  pub from-server : h .source ≡ a .dest → eqb (h .dest) (a .source) ≡ isBetween a h
+  unfolding isBetween
+  from-server k = rw (eq-eqb _ _ k)
+
+-- The answer to an attempt
+
+module _ (a : Attempt) (h : Header) where
+  abbrev Heard : Reply
+  Heard = judgedReply (refusal (replyChecks a h)) a h
+
+  module _ {kind : Bool} (flags : kind ≡ synAck (h .flags)) where
+    pub dropped-flags : kind ≡ false → Dropped Flags ≡ Heard
+    dropped-flags k = rw (sym flags ∙ k)
+
+    module _ (k : kind ≡ true) where
+      pub dropped-range : 1460 < a .sent → Dropped Range ≡ Heard
+      dropped-range e = rw (sym flags ∙ k, lt-ltb _ _ e)
+
+      module _ (e : a .sent ≤ 1460) {n : ℕ} (count : n ≡ countIn a h) where
+        pub dropped-count : a .sent < n → Dropped Sequence ≡ Heard
+        dropped-count l = rw (sym flags ∙ k, le-ltb _ _ e, sym count, lt-ltb _ _ l)
+
+        pub heard : n ≤ a .sent → Acknowledged n ≡ Heard
+        heard l = rw (sym flags ∙ k, le-ltb _ _ e, sym count, le-ltb _ _ l) (ap Acknowledged count)
 
 -- The segment of an answer
 

@@ -1,16 +1,22 @@
 -- `client::bans::free_place` meets its contract: the search goes on while the bans are live.
 -- Assumes nothing.
 use Prim.Native.Nat.{_-_, _≤_, _<_}
-use mathlib.Core.Path.{_≡_, ap}
+use mathlib.Core.Path.{_≡_}
 use mathlib.Core.Bool.{not}
+use mathlib.Core.List.{[]}
 use native.Mathlib.Omega.{arith}
-use lib.ListN.{length, length-map}
-use borrow.Author.Tests.{lt-ltb, le-ltb}
+use lib.ListN.{length, length-map, getD}
 use Rattle.client.specs.Bans.{isLive}
+use Rattle.client.specs.declared.bans.Ban.{Ban}
 use Rattle.lists.proofs.Finding.{Searched, searched-start, searched-on, searched-found, searched-end}
+use Rattle.client.proofs.Parts.{ended, not-ended}
 use borrow.Author.Needs.{needs}
 use Rattle.client.proofs.bans.free_place.Statement.{statement}
 use Rattle.client.proofs.bans.free_place.Tie as tie
+
+-- what stands in for a ban past the array
+abbrev empty : Ban
+empty = record { addr = []; port = 0; end = 0 }
 
 abbrev Inv-loop : tie.InvT-loop
 Inv-loop time m i₀ i = (i ≤ 32) × Searched (λ x. not (isLive time x)) (m .bans) i
@@ -33,7 +39,7 @@ returns c =
     let n : length (a .t1 .bans) ≡ 32 = simp length-map at (c .before .before .before .before .before .good .0 .1 .1 .1 .0 .1 .0 .1) in
     let i = c .before .before .before .before .loop .i in
     let h : i < length (a .t1 .bans) = omega arith in
-    searched-found (λ x. not (isLive (a .time) x)) (a .t1 .bans) i (c .before .before .before .before .loop .inv .1) _ h (ap not (le-ltb _ _ (c .if1 .taken)))
+    searched-found (λ x. not (isLive (a .time) x)) (a .t1 .bans) i (c .before .before .before .before .loop .inv .1) empty h (ended (a .time) (getD (a .t1 .bans) i empty) (omega arith))
 
 add-i : tie.Need-add-i Inv-loop μ-loop
 add-i c = search needs
@@ -47,7 +53,7 @@ loop-again c =
     let n : length (a .t1 .bans) ≡ 32 = simp length-map at (c .before .before .before .before .before .good .0 .1 .1 .1 .0 .1 .0 .1) in
     let i = c .before .before .before .before .loop .i in
     let h : i < length (a .t1 .bans) = omega arith in
-    (omega arith, searched-on (λ x. not (isLive (a .time) x)) (a .t1 .bans) i (c .before .before .before .before .loop .inv .1) _ h (ap not (lt-ltb _ _ (c .if1 .left))))
+    (omega arith, searched-on (λ x. not (isLive (a .time) x)) (a .t1 .bans) i (c .before .before .before .before .loop .inv .1) empty h (not-ended (a .time) (getD (a .t1 .bans) i empty) (omega arith)))
 
 returns-2 : tie.Need-returns-2 Inv-loop μ-loop
 returns-2 c =

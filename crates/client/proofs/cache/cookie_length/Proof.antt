@@ -1,6 +1,6 @@
 -- `client::cache::cookie_length` meets its contract: the length is a cookie's, or not.
 -- Assumes nothing.
-use mathlib.Core.Path.{sym, _∙_}
+use Rattle.client.proofs.Parts.{cookie-kept, cookie-left}
 use borrow.Author.Needs.{needs}
 use Rattle.client.proofs.cache.cookie_length.Statement.{statement}
 use Rattle.client.proofs.cache.cookie_length.Tie as tie
@@ -9,10 +9,10 @@ is-cookie-length-requires : tie.Need-is-cookie-length-requires
 is-cookie-length-requires c κs = search needs
 
 returns : tie.Need-returns
-returns c = simp (sym (c .before .is-cookie-length .ensures) ∙ c .if1 .taken)
+returns c = cookie-kept (c .before .before .args .e) (c .before .is-cookie-length .ensures) (c .if1 .taken)
 
 returns-2 : tie.Need-returns-2
-returns-2 c = simp (sym (c .before .is-cookie-length .ensures) ∙ c .if1 .left)
+returns-2 c = cookie-left (c .before .before .args .e) (c .before .is-cookie-length .ensures) (c .if1 .left)
 
 pub cookie-length-spec : {M : Type 1} → statement M
 cookie-length-spec = tie.close (tie.spec is-cookie-length-requires returns returns-2)

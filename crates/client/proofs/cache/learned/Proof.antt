@@ -1,7 +1,7 @@
 -- `client::cache::learned` meets its contract: with a cookie, or without.
 -- Assumes nothing.
-use borrow.Author.Tests.{eq-eqb, ne-eqb}
 use Rattle.endpoint.proofs.Blocks.{kept}
+use Rattle.client.proofs.Parts.{learned-none, learned-cookie}
 use borrow.Author.Needs.{needs}
 use Rattle.client.proofs.cache.learned.Statement.{statement}
 use Rattle.client.proofs.cache.learned.Tie as tie
@@ -10,13 +10,20 @@ first-mss-requires : tie.Need-first-mss-requires
 first-mss-requires c κs = search needs
 
 returns : tie.Need-returns
-returns c = simp (eq-eqb _ _ (c .before .if1 .taken), c .before .before .first-mss .ensures)
+returns c =
+    let p = c .before .before in
+    let a = p .before .before .args in
+    learned-none (a .old) (a .b) (a .cookie .now) (a .mss) (p .first-mss .ensures) (c .before .if1 .taken)
 
 block-of-requires : tie.Need-block-of-requires
 block-of-requires c κs = search needs
 
 returns-2 : tie.Need-returns-2
-returns-2 c = simp (ne-eqb _ _ (c .before .if1 .left), c .before .before .first-mss .ensures, kept (c .before .before .before .before .args .cookie .now) (c .before .before .before .before .pre) (c .block-of .ensures))
+returns-2 c =
+    let p = c .before .before in
+    let s = p .before .before in
+    let a = s .args in
+    learned-cookie (a .old) (a .b) (a .cookie .now) (a .mss) (p .first-mss .ensures) (c .before .if1 .left) (kept (a .cookie .now) (s .pre) (c .block-of .ensures))
 
 pub learned-spec : {M : Type 1} → statement M
 learned-spec = tie.close (tie.spec first-mss-requires returns block-of-requires returns-2)

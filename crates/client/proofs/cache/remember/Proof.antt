@@ -80,7 +80,7 @@ returns c =
     let whole : List Entry → Memory = λ s. withCache m₀ s in
     let at : ℕ → Memory = λ k. withCache m₀ (shifted e (m₀ .cache) k) in
     c .before .loop .inv .2 ∙ ap at i ∙ ⊎-elim (λ w. ap at (w .1 ∙ ap (λ (k : ℕ). k + 1) place) ∙ ap whole (shifted-out p e (m₀ .cache) 32 n (omega (arith, place, w .0 .taken))))
-    (λ w. ap at (w .1) ∙ ap whole (shifted-all p e (m₀ .cache) 32 n (omega (arith, place, w .0 .left)))) (c .before .before .if1 .came)
+    (λ w. let all : c .before .before .if1 .end ≡ 32 = w .1 in ap at all ∙ ap whole (shifted-all p e (m₀ .cache) 32 n (omega (arith, place, w .0 .left)))) (c .before .before .if1 .came)
 
 pub remember-spec : {M : Type 1} → statement M
 remember-spec =

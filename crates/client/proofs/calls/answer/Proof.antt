@@ -1,11 +1,75 @@
 -- `client::calls::answer` meets its contract: by the checks.
 -- Assumes nothing.
-use mathlib.Core.Path.{sym, _∙_}
-use Rattle.client.proofs.Calling.{answer-refused, answer-kept, answer-time, answer-done}
-use Rattle.client.proofs.Parts.{brought-most}
+use mathlib.Core.Path.{_≡_, sym, _∙_}
+use Rattle.endpoint.specs.Address.{block}
+use Rattle.client.specs.Step.{cookieIn, mssIn}
+use Rattle.client.specs.declared.checks.Reply.{Reply}
+use Rattle.client.specs.declared.checks.Reply.the-variants.{Acknowledged}
+use Rattle.client.proofs.Calling.{Said, answer-refused, answer-kept, answer-time, answer-done}
+use Rattle.client.proofs.Parts.{brought-is, brought-most}
 use borrow.Author.Needs.{needs}
 use Rattle.client.proofs.calls.answer.Statement.{statement}
 use Rattle.client.proofs.calls.answer.Tie as tie
+
+-- The places that later ones look back to, each from the next
+
+abbrev timed : tie.After-check-answer → tie.After-at-time
+timed c = c .before
+
+abbrev entry : tie.After-check-answer → tie.Start
+entry c = timed c .before .before .before .before
+
+abbrev checked : tie.After-n → tie.After-check-answer
+checked c = c .before .before
+
+abbrev counted : tie.After-block-of → tie.After-n
+counted c = c .before .before
+
+abbrev blocked : tie.After-segment-options → tie.After-block-of
+blocked c = c .before
+
+abbrev parsed : tie.After-option-area → tie.After-segment-options
+parsed c = c .before
+
+abbrev area : tie.After-cookie → tie.After-option-area
+area c = c .before
+
+abbrev brought : tie.After-learn → tie.After-cookie
+brought c = c .before
+
+abbrev learnt : tie.After-ban-if-negative → tie.After-learn
+learnt c = c .before
+
+-- What is known at each
+
+-- what the checks come to
+module _ (c : tie.After-check-answer) where
+  abbrev said : Reply
+  said = Said (entry c .args .m) (entry c .args .time) (entry c .args .own .now) (entry c .args .server .now) (entry c .args .a) (entry c .args .seg .now)
+
+-- it is a count
+module _ (c : tie.After-n) where
+  acknowledged : said (checked c) ≡ Acknowledged (c .n .given .0 .0)
+  acknowledged = sym (checked c .check-answer .ensures) ∙ c .n .given .1
+
+-- the server's block was made
+module _ (c : tie.After-block-of) where
+  abbrev start : tie.Start
+  start = entry (checked (counted c))
+
+  named : c .block-of .result ≡ block (start .args .server .now)
+  named =
+      let a = start .args in
+      answer-kept (a .m) (a .time) (a .own .now) (a .server .now) (a .a) (a .seg .now) (acknowledged (counted c)) (c .block-of .ensures)
+
+-- the options were read
+module _ (c : tie.After-cookie) where
+  abbrev named-at : tie.After-block-of
+  named-at = blocked (parsed (area c))
+
+  brings : (c .cookie .result .now ≡ cookieIn (start named-at .args .seg .now))
+      × (parsed (area c) .segment-options .result .mss ≡ mssIn (start named-at .args .seg .now))
+  brings = brought-is (start named-at .args .seg .now) (parsed (area c) .segment-options .ensures) (area c .option-area .ensures) (c .cookie .ensures)
 
 at-time-requires : tie.Need-at-time-requires
 at-time-requires c κs = search needs
@@ -35,25 +99,28 @@ cookie-requires : tie.Need-cookie-requires
 cookie-requires c κs = search needs
 
 learn-requires : tie.Need-learn-requires
-learn-requires c κs = rw (c .cookie .ensures, c .before .option-area .ensures, c .before .before .segment-options .ensures) (brought-most (c .before .before .before .before .before .before .before .before .before .before .before .before .args .seg .now))
+learn-requires c κs = rw (brings c .0) (brought-most (start (named-at c) .args .seg .now))
 
 ban-if-negative-requires : tie.Need-ban-if-negative-requires
 ban-if-negative-requires c κs =
-    let a = c .before .before .before .before .before .before .before .before .before .before .before .before .before .args in
-    answer-time (a .m) (a .time) (a .own .now) (a .server .now) (a .a) (a .seg .now) (sym (c .before .before .before .before .before .before .before .before .check-answer .ensures) ∙ c .before .before .before .before .before .before .n .given .1)
+    let b = named-at (brought c) in
+    let a = start b .args in
+    answer-time (a .m) (a .time) (a .own .now) (a .server .now) (a .a) (a .seg .now) (acknowledged (counted b))
 
 returns : tie.Need-returns
 returns c =
-    let a = c .before .before .before .before .before .before .before .before .before .args in
-    answer-refused (a .m) (a .time) (a .own .now) (a .server .now) (a .a) (a .seg .now) (c .refused .ensures) (sym (c .before .before .before .before .check-answer .ensures) ∙ c .before .before .why .given .1)
+    let p = c .before .before .before .before in
+    let a = entry p .args in
+    answer-refused (a .m) (a .time) (a .own .now) (a .server .now) (a .a) (a .seg .now) (c .refused .ensures) (sym (p .check-answer .ensures) ∙ c .before .before .why .given .1)
 
 returns-2 : tie.Need-returns-2
 returns-2 c =
-    let a = c .before .before .before .before .before .before .before .before .before .before .before .before .before .before .args in
-    let said = sym (c .before .before .before .before .before .before .before .before .before .check-answer .ensures) ∙ c .before .before .before .before .before .before .before .n .given .1 in
-    let b = answer-kept (a .m) (a .time) (a .own .now) (a .server .now) (a .a) (a .seg .now) said (c .before .before .before .before .before .block-of .ensures) in
-    answer-done (a .m) (a .time) (a .own .now) (a .server .now) (a .a) (a .seg .now) said _
-    (rw (c .before .learn .ensures, c .before .before .before .before .before .before .before .before .before .before .at-time .ensures, b, c .before .before .cookie .ensures, c .before .before .before .option-area .ensures, c .before .before .before .before .segment-options .ensures) at (c .ban-if-negative .ensures))
+    let l = learnt c in
+    let o = brought l in
+    let b = named-at o in
+    let a = start b .args in
+    answer-done (a .m) (a .time) (a .own .now) (a .server .now) (a .a) (a .seg .now) (acknowledged (counted b))
+    (timed (checked (counted b)) .at-time .ensures) (named b) (brings o .0) (brings o .1) (l .learn .ensures) (c .ban-if-negative .ensures)
 
 pub answer-spec : {M : Type 1} → statement M
 answer-spec =

@@ -1,10 +1,7 @@
 -- `client::calls::sent_with` meets its contract: banned, without a cookie, or the smaller of two.
 -- Assumes nothing.
-use mathlib.Core.Path.{sym}
-use native.Mathlib.Nat.{min-eq-left, min-eq-right}
 use native.Mathlib.Omega.{arith}
-use borrow.Author.Tests.{eq-eqb, ne-eqb}
-use Rattle.client.proofs.Parts.{with-most}
+use Rattle.client.proofs.Parts.{sent-none, sent-offered, sent-room, with-most}
 use borrow.Author.Needs.{needs}
 use Rattle.client.proofs.calls.sent_with.Statement.{statement}
 use Rattle.client.proofs.calls.sent_with.Tie as tie
@@ -19,8 +16,9 @@ cookie-length-requires c κs = search needs
 
 returns-2 : tie.Need-returns-2
 returns-2 c =
-    let a = c .before .before .before .args in
-    with-most (a .family) (a .banned) (a .e) (a .offered) (simp (c .before .before .if1 .left, sym (c .before .cookie-length .ensures), eq-eqb _ _ (c .if2 .taken)))
+    let p = c .before in
+    let a = p .before .before .args in
+    with-most (a .family) (a .banned) (a .e) (a .offered) (sent-none (a .family) (a .e) (a .offered) (p .before .if1 .left) (p .cookie-length .ensures) (c .if2 .taken))
 
 data-room-requires : tie.Need-data-room-requires
 data-room-requires c κs = search needs
@@ -30,13 +28,17 @@ cast-room c = search needs
 
 returns-3 : tie.Need-returns-3
 returns-3 c =
-    let a = c .before .before .before .before .before .args in
-    with-most (a .family) (a .banned) (a .e) (a .offered) (simp (c .before .before .before .before .if1 .left, sym (c .before .before .before .cookie-length .ensures), ne-eqb _ _ (c .before .before .if2 .left), sym (c .before .data-room .ensures)) (sym (min-eq-left (omega arith))))
+    let p = c .before .before .before in
+    let a = p .before .before .args in
+    with-most (a .family) (a .banned) (a .e) (a .offered)
+    (sent-offered (a .family) (a .e) (a .offered) (p .before .if1 .left) (p .cookie-length .ensures) (c .before .before .if2 .left) (c .before .data-room .ensures) (omega arith))
 
 returns-4 : tie.Need-returns-4
 returns-4 c =
-    let a = c .before .before .before .before .before .args in
-    with-most (a .family) (a .banned) (a .e) (a .offered) (simp (c .before .before .before .before .if1 .left, sym (c .before .before .before .cookie-length .ensures), ne-eqb _ _ (c .before .before .if2 .left), sym (c .before .data-room .ensures)) (sym (min-eq-right (omega arith))))
+    let p = c .before .before .before in
+    let a = p .before .before .args in
+    with-most (a .family) (a .banned) (a .e) (a .offered)
+    (sent-room (a .family) (a .e) (a .offered) (p .before .if1 .left) (p .cookie-length .ensures) (c .before .before .if2 .left) (c .before .data-room .ensures) (omega arith))
 
 pub sent-with-spec : {M : Type 1} → statement M
 sent-with-spec =

@@ -1,8 +1,7 @@
 -- `client::calls::start` meets its contract: a size of addresses, or not.
 -- Assumes nothing.
-use mathlib.Core.Path.{sym, _∙_}
 use borrow.Author.Tests.{not-true, not-false}
-use Rattle.client.specs.Step.{startOf}
+use Rattle.client.proofs.Calling.{start-refused, start-done}
 use borrow.Author.Needs.{needs}
 use Rattle.client.proofs.calls.start.Statement.{statement}
 use Rattle.client.proofs.calls.start.Tie as tie
@@ -14,8 +13,9 @@ never-started-requires : tie.Need-never-started-requires
 never-started-requires c κs = search needs
 
 returns : tie.Need-returns
-unfolding startOf
-returns c = rw (c .never-started .ensures, sym (c .before .before .is-size .ensures) ∙ not-true _ (c .before .if1 .taken))
+returns c =
+    let p = c .before .before in
+    start-refused (p .before .args .size) (p .is-size .ensures) (not-true _ (c .before .if1 .taken)) (c .never-started .ensures)
 
 family-of-requires : tie.Need-family-of-requires
 family-of-requires c κs = search needs
@@ -24,8 +24,9 @@ blank-memory-requires : tie.Need-blank-memory-requires
 blank-memory-requires c κs = search needs
 
 returns-2 : tie.Need-returns-2
-unfolding startOf
-returns-2 c = rw (c .blank-memory .ensures, c .before .family-of .ensures, sym (c .before .before .before .is-size .ensures) ∙ not-false _ (c .before .before .if1 .left))
+returns-2 c =
+    let p = c .before .before .before in
+    start-done (p .before .args .size) (p .is-size .ensures) (not-false _ (c .before .before .if1 .left)) (c .before .family-of .ensures) (c .blank-memory .ensures)
 
 pub start-spec : {M : Type 1} → statement M
 start-spec =
