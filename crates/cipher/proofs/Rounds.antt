@@ -1,9 +1,18 @@
 -- The rounds of the cipher, as the code goes through them.
 -- Assumes nothing.
-use mathlib.Core.Path.{_≡_, refl}
+use mathlib.Core.Path.{_≡_, refl, ap, _∙_}
 use Prim.Native.Nat.{ℕ, suc}
 use lib.ListN.{length}
 use Rattle.cipher.specs.Cipher.{Bytes, State, cipher, fromBlock, toBlock, rounds, addRoundKey, mixColumns, shiftRows, subBytes}
+
+-- one round: `shift_rows`, SubBytes and MixColumns in one, `add_round_key`; and the last, which mixes no columns
+pub round-done : (w : Bytes) (n : ℕ) (s : State) {a b r : State} → a ≡ shiftRows s → b ≡ mixColumns (subBytes a) → r ≡ addRoundKey w n b
+    → r ≡ addRoundKey w n (mixColumns (shiftRows (subBytes s)))
+round-done w n s h i j = j ∙ ap (λ (x : State). addRoundKey w n x) (i ∙ ap (λ (x : State). mixColumns (subBytes x)) h)
+
+pub last-done : (w : Bytes) (s : State) {a b r : State} → a ≡ subBytes s → b ≡ shiftRows a → r ≡ addRoundKey w 10 b
+    → r ≡ addRoundKey w 10 (shiftRows (subBytes s))
+last-done w s h i j = j ∙ ap (λ (x : State). addRoundKey w 10 x) (i ∙ ap shiftRows h)
 
 pub no-round : (w : Bytes) (z : State) → z ≡ rounds w 0 z
 unfolding rounds

@@ -1,13 +1,14 @@
 -- A rule of a table, proved at each entry by one test over the whole table, which antt computes.
 -- Assumes nothing.
-use mathlib.Core.Path.{_≡_, _∙_, subst, sym}
+use mathlib.Core.Path.{_≡_, _∙_, subst, sym, ap}
 use mathlib.Core.Bool.{Bool, true, false}
 use mathlib.Core.List.{List, [], _∷_}
-use Prim.Native.Nat.{ℕ, zero, suc, _+_, _<_}
+use Prim.Native.Nat.{ℕ, zero, suc, _+_, _-_, _<_}
 use native.Mathlib.Nat.{add-zero, zero-add, add-suc, suc-add, le-of-suc-le-suc, not-suc-le-zero}
 use lib.Dec.{T, eqb, eqb→eq}
 use lib.ListN.{length, getD}
 use Rattle.cipher.specs.Cipher.{sBox, IsSBox}
+use Rattle.cipher.specs.KeyExpansion.{powerOfX, rcon}
 
 abbrev both : Bool → Bool → Bool
 both true b = b
@@ -40,3 +41,7 @@ table-of f n ys l t k h = rw zero-add at (from f ys 0 t k (rw l h))
 pub s-box-tested : (t : List ℕ) → length t ≡ 256 → T (every sBox 0 t) → IsSBox t
 unfolding IsSBox
 s-box-tested t = table-of sBox 256 t
+
+-- ten entries that pass the test are the round constants' first bytes
+pub rcon-tested : (t : List ℕ) → length t ≡ 10 → T (every powerOfX 0 t) → (i : ℕ) → i - 1 < 10 → (getD t (i - 1) 0 ∷ 0 ∷ 0 ∷ 0 ∷ []) ≡ rcon i
+rcon-tested t l p i h = ap (λ (x : ℕ). x ∷ 0 ∷ 0 ∷ 0 ∷ []) (table-of powerOfX 10 t l p (i - 1) h)

@@ -1,7 +1,6 @@
 -- `cipher::last_round` meets its contract.
 -- Assumes nothing.
-use mathlib.Core.Path.{_∙_, ap}
-use Rattle.cipher.specs.Cipher.{State, addRoundKey, shiftRows}
+use Rattle.cipher.proofs.Rounds.{last-done}
 use borrow.Author.Needs.{needs}
 use Rattle.cipher.proofs.last_round.Statement.{statement}
 use Rattle.cipher.proofs.last_round.Tie as tie
@@ -16,8 +15,9 @@ add-round-key-requires : tie.Need-add-round-key-requires
 add-round-key-requires c κs = search needs
 
 returns : tie.Need-returns
-returns c = c .add-round-key .ensures
-    ∙ ap (λ (x : State). addRoundKey (c .before .before .before .before .args .t2) 10 x) (c .before .before .shift-rows .ensures ∙ ap shiftRows (c .before .before .before .sub-bytes .ensures))
+returns c =
+    let s = c .before .before .before .before .args in
+    last-done (s .t2) (s .s) (c .before .before .before .sub-bytes .ensures) (c .before .before .shift-rows .ensures) (c .add-round-key .ensures)
 
 pub last-round-spec : {M : Type 1} → statement M
 last-round-spec =

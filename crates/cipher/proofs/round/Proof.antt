@@ -1,7 +1,6 @@
 -- `cipher::round` meets its contract.
 -- Assumes nothing.
-use mathlib.Core.Path.{_∙_, ap}
-use Rattle.cipher.specs.Cipher.{State, addRoundKey, mixColumns, subBytes}
+use Rattle.cipher.proofs.Rounds.{round-done}
 use borrow.Author.Needs.{needs}
 use Rattle.cipher.proofs.round.Statement.{statement}
 use Rattle.cipher.proofs.round.Tie as tie
@@ -16,9 +15,9 @@ add-round-key-requires : tie.Need-add-round-key-requires
 add-round-key-requires c κs = search needs
 
 returns : tie.Need-returns
-returns c = c .add-round-key .ensures
-    ∙ ap (λ (x : State). addRoundKey (c .before .before .before .before .args .t2) (c .before .before .before .before .args .n) x)
-    (c .before .before .sub-mix-columns .ensures ∙ ap (λ (x : State). mixColumns (subBytes x)) (c .before .before .before .shift-rows .ensures))
+returns c =
+    let s = c .before .before .before .before .args in
+    round-done (s .t2) (s .n) (s .s) (c .before .before .before .shift-rows .ensures) (c .before .before .sub-mix-columns .ensures) (c .add-round-key .ensures)
 
 pub round-spec : {M : Type 1} → statement M
 round-spec =

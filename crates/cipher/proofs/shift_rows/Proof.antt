@@ -1,6 +1,7 @@
--- `cipher::shift_rows` meets its contract: the same sixteen bytes, in the same places. (The prover finds this by itself; the file is here so that a wrong place is refused as an equation.)
+-- `cipher::shift_rows` meets its contract, column by column. (The prover finds this by itself; the file is here so that a wrong place is refused as an equation.)
 -- Assumes nothing.
 use mathlib.Core.Path.{refl}
+use Rattle.cipher.proofs.Words.{columns-equal}
 use borrow.Author.Needs.{needs}
 use Rattle.cipher.proofs.shift_rows.Statement.{statement}
 use Rattle.cipher.proofs.shift_rows.Tie as tie
@@ -102,7 +103,7 @@ index-2-t85 : tie.Need-index-2-t85
 index-2-t85 c = search needs
 
 returns : tie.Need-returns
-returns c = refl
+returns c = columns-equal _ _ refl refl refl refl refl refl
 
 pub shift-rows-spec : {M : Type 1} → statement M
 shift-rows-spec =
