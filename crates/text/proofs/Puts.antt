@@ -99,6 +99,11 @@ more o at s w n n′ out out′ p q =
       q .1 ∙ rw (p .0, p .1) (laid-laid at s w o),
     )
 
+-- the same with each place and buffer by itself
+pub put-then : (o : List ℕ) (at : ℕ) (s w : List ℕ) {n n′ : ℕ} {out out′ : List ℕ} → n ≡ placeAfter at (length s) (length o) → out ≡ laid at s o
+    → n′ ≡ placeAfter n (length w) (length out) → out′ ≡ laid n w out → Put o at (s ++ w) n′ out′
+put-then o at s w p q r t = more o at s w _ _ _ _ (p, q) (r, t)
+
 pub same-put : (o : List ℕ) (at : ℕ) (s w : List ℕ) (n : ℕ) (out : List ℕ) → s ≡ w → Put o at s n out → Put o at w n out
 same-put o at s w n out e p = subst (λ (x : List ℕ). Put o at x n out) e p
 

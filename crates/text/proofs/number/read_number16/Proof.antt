@@ -18,7 +18,7 @@ enum-known-v : tie.Need-enum-known-v
 enum-known-v c = search needs
 
 cast-t5 : tie.Need-cast-t5
-cast-t5 c = omega (arith, at-most _ 65535 _ (sym (c .before .v .given .1) ∙ c .before .before .before .read-number .ensures))
+cast-t5 c = omega (arith, at-most _ _ _ (sym (c .before .v .given .1) ∙ c .before .before .before .read-number .ensures))
 
 returns : tie.Need-returns
 unfolding number16In

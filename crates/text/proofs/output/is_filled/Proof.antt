@@ -4,7 +4,7 @@ use Prim.Native.Nat.{_-_, _≤_, _<_}
 use mathlib.Core.Path.{refl}
 use native.Mathlib.Omega.{arith}
 use lib.Dec.{eqb}
-use lib.ListN.{length}
+use lib.ListN.{length, getD}
 use borrow.Author.Needs.{needs}
 use borrow.Author.Tests.{eq-eqb, ne-eqb}
 use Rattle.lists.proofs.Places.{Passed, passed-on, passed-not, passed-all}
@@ -28,7 +28,7 @@ returns c =
     let q = c .before .before .before .loop in
     let s = c .before .before .before .before .args .bytes .now in
     let h : q .i < length s = omega arith in
-    passed-not _ s (q .i) 0 h (ne-eqb _ _ (c .if1 .taken)) (q .inv .1)
+    passed-not _ s (q .i) 0 h (ne-eqb (getD s (q .i) 0) (c .before .before .before .before .args .b) (λ e. omega (arith, e))) (q .inv .1)
 
 add-i : tie.Need-add-i Inv-loop μ-loop
 add-i c = search needs
@@ -41,7 +41,7 @@ loop-again c =
     let q = c .before .before .before .loop in
     let s = c .before .before .before .before .args .bytes .now in
     let h : q .i < length s = omega arith in
-    (search needs, passed-on _ s (q .i) 0 h (eq-eqb _ _ (c .if1 .left)) (q .inv .1))
+    (search needs, passed-on _ s (q .i) 0 h (eq-eqb (getD s (q .i) 0) (c .before .before .before .before .args .b) (omega arith)) (q .inv .1))
 
 returns-2 : tie.Need-returns-2 Inv-loop μ-loop
 returns-2 c =

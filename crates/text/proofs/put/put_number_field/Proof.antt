@@ -1,7 +1,7 @@
 -- `text::put::put_number_field` meets its contract.
 -- Assumes nothing.
 use mathlib.Core.List.{[], _∷_}
-use Rattle.text.proofs.Puts.{more}
+use Rattle.text.proofs.Puts.{put-then}
 use Rattle.text.specs.Number.{decimal}
 use borrow.Author.Needs.{needs}
 use Rattle.text.proofs.put.put_number_field.Statement.{statement}
@@ -22,7 +22,7 @@ same-length c = search needs
 returns : tie.Need-returns
 returns c =
     let a = c .before .before .before .before .before .before .before .before .before .before .args in
-    more (a .out .now) (a .at) (decimal (a .n)) (32 ∷ []) _ _ _ _ (c .before .before .before .before .before .before .before .put-number .ensures) (c .before .before .put .ensures)
+    put-then (a .out .now) (a .at) (decimal (a .n)) (32 ∷ []) (c .before .before .before .before .before .before .before .put-number .ensures .0) (c .before .before .before .before .before .before .before .put-number .ensures .1) (c .before .before .put .ensures .0) (c .before .before .put .ensures .1)
 
 pub put-number-field-spec : {M : Type 1} → statement M
 put-number-field-spec =

@@ -20,13 +20,13 @@ same-length : tie.Need-same-length
 same-length c = search needs
 
 returns : tie.Need-returns
-returns c = rw (c .before .before .before .before .before .if1 .taken) (c .before .before .put .ensures)
+returns c = rw (c .before .before .before .before .before .if1 .taken) (c .before .before .put .ensures .0, c .before .before .put .ensures .1)
 
 same-length-2 : tie.Need-same-length-2
 same-length-2 c = search needs
 
 returns-2 : tie.Need-returns-2
-returns-2 c = rw (c .before .before .before .before .before .if1 .left) (c .before .before .put2 .ensures)
+returns-2 c = rw (c .before .before .before .before .before .if1 .left) (c .before .before .put2 .ensures .0, c .before .before .put2 .ensures .1)
 
 pub put-rest-spec : {M : Type 1} → statement M
 put-rest-spec =

@@ -19,7 +19,7 @@ abbrev μ-loop : tie.MeasureT-loop
 μ-loop word name i₀ i = length word - i
 
 returns : tie.Need-returns Inv-loop μ-loop
-returns c = sym (unlike (c .before .args .word .now) (c .before .args .name .now) (c .if1 .taken))
+returns c = sym (unlike (c .before .args .word .now) (c .before .args .name .now) (λ e. omega (arith, e)))
 
 loop-holds : tie.Need-loop-holds Inv-loop μ-loop
 loop-holds c = (search needs, (search needs, refl))
@@ -36,7 +36,7 @@ returns-2 c =
     let q = c .before .before .before .before .loop in
     let h : q .i < length (g .word .now) = omega arith in
     let k : q .i < length (g .name .now) = omega arith in
-    differ (g .word .now) (g .name .now) (q .i) true (sameBytes (g .word .now) (g .name .now)) (q .inv .1 .1) h k false refl (c .if2 .taken)
+    differ (g .word .now) (g .name .now) (q .i) true (sameBytes (g .word .now) (g .name .now)) (q .inv .1 .1) h k false refl (λ e. omega (arith, e))
 
 add-i : tie.Need-add-i Inv-loop μ-loop
 add-i c = search needs
@@ -50,7 +50,7 @@ loop-again c =
     let q = c .before .before .before .before .loop in
     let h : q .i < length (g .word .now) = omega arith in
     let k : q .i < length (g .name .now) = omega arith in
-    (search needs, (search needs, agree (g .word .now) (g .name .now) (q .i) true (sameBytes (g .word .now) (g .name .now)) (q .inv .1 .1) h k true refl (c .if2 .left)))
+    (search needs, (search needs, agree (g .word .now) (g .name .now) (q .i) true (sameBytes (g .word .now) (g .name .now)) (q .inv .1 .1) h k true refl (omega arith)))
 
 returns-3 : tie.Need-returns-3 Inv-loop μ-loop
 returns-3 c =
