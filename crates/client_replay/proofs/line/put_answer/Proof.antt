@@ -8,7 +8,7 @@ use Rattle.client.specs.Call.{numberOfEvent, countOf}
 use Rattle.text.specs.Number.{decimal}
 use Rattle.text.specs.ByteString.{hexWord}
 use Rattle.text.specs.Put.{field, lastField, fields, restWord}
-use Rattle.text.proofs.Puts.{Put, more, same-put}
+use Rattle.text.proofs.Puts.{Put, put-then, same-put}
 use Rattle.client_replay.specs.Line.{answerLine}
 use borrow.Author.Needs.{needs}
 use Rattle.client_replay.proofs.line.put_answer.Statement.{statement}
@@ -60,10 +60,14 @@ returns c =
     let size = field (decimal (length (s .written .now))) in
     let output = field (hexWord (s .written .now)) in
     let a : Put o 0 number _ _ = rw (c .before .before .before .before .before .before .before .before .before .before .before .before .before .before .before .before .before .before .before .before .event-number .ensures) at (c .before .before .before .before .before .before .before .before .before .before .before .before .before .before .before .before .before .before .before .put-number-field .ensures) in
-    let b = more o 0 number count _ _ _ _ a (rw (c .before .before .before .before .before .before .before .before .before .before .before .before .before .before .before .event-count .ensures) at (c .before .before .before .before .before .before .before .before .before .before .before .before .before .before .put-number-field2 .ensures)) in
-    let d = more o 0 (number ++ count) size _ _ _ _ b (c .before .before .before .before .before .before .before .before .before .before .put-number-field3 .ensures) in
-    let e = more o 0 (number ++ count ++ size) output _ _ _ _ d (c .before .before .before .before .before .before .put-bytes-field .ensures) in
-    let f = more o 0 (number ++ count ++ size ++ output) (lastField (restWord (s .kept))) _ _ _ _ e (c .before .before .put-rest .ensures) in
+    let x = rw (c .before .before .before .before .before .before .before .before .before .before .before .before .before .before .before .event-count .ensures) at (c .before .before .before .before .before .before .before .before .before .before .before .before .before .before .put-number-field2 .ensures) in
+    let b = put-then o 0 number count (a .0) (a .1) (x .0) (x .1) in
+    let y = c .before .before .before .before .before .before .before .before .before .before .put-number-field3 .ensures in
+    let d = put-then o 0 (number ++ count) size (b .0) (b .1) (y .0) (y .1) in
+    let z = c .before .before .before .before .before .before .put-bytes-field .ensures in
+    let e = put-then o 0 (number ++ count ++ size) output (d .0) (d .1) (z .0) (z .1) in
+    let w = c .before .before .put-rest .ensures in
+    let f = put-then o 0 (number ++ count ++ size ++ output) (lastField (restWord (s .kept))) (e .0) (e .1) (w .0) (w .1) in
     same-put o 0 _ (answerLine (s .event) (s .written .now) (s .kept)) _ _ (joined (decimal (numberOfEvent (s .event))) (decimal (countOf (s .event))) (decimal (length (s .written .now))) (hexWord (s .written .now)) (restWord (s .kept))) f
 
 pub put-answer-spec : {M : Type 1} → statement M

@@ -1,9 +1,23 @@
 -- `client_replay::line::put_outcome` meets its contract: what is written, and whether the rest is kept.
 -- Assumes nothing.
-use Rattle.client_replay.specs.Line.{outcomeLine}
+use Prim.Native.Nat.{ℕ}
+use mathlib.Core.Path.{_≡_, ap₂}
+use mathlib.Core.Bool.{Bool}
+use mathlib.Core.List.{List}
+use lib.ListN.{take}
+use Rattle.client.specs.declared.answer.Event.{Event}
+use Rattle.text.specs.Output.{isKept}
+use Rattle.text.proofs.Puts.{same-put}
+use Rattle.client_replay.specs.Line.{answerLine, outcomeLine}
 use borrow.Author.Needs.{needs}
 use Rattle.client_replay.proofs.line.put_outcome.Statement.{statement}
 use Rattle.client_replay.proofs.line.put_outcome.Tie as tie
+
+-- the line, of what was written and of whether the rest is kept
+line-of : (event : Event) (lent : List ℕ) (n : ℕ) {written : List ℕ} {kept : Bool} → written ≡ take n lent → kept ≡ isKept n lent
+    → answerLine event written kept ≡ outcomeLine event lent n
+unfolding outcomeLine
+line-of event lent n p q = ap₂ (answerLine event) p q
 
 is-kept-requires : tie.Need-is-kept-requires
 is-kept-requires c κs = search needs
@@ -18,8 +32,9 @@ same-length : tie.Need-same-length
 same-length c = search needs
 
 returns : tie.Need-returns
-unfolding outcomeLine
-returns c = (cc, cc)
+returns c =
+    let s = c .before .before .before .before .before .before .before .before .args in
+    same-put (s .out .now) 0 _ (outcomeLine (s .event) (s .lent .now) (s .written)) _ _ (line-of (s .event) (s .lent .now) (s .written) (c .before .before .before .first .ensures) (c .before .before .before .before .before .is-kept .ensures)) (c .before .before .put-answer .ensures)
 
 pub put-outcome-spec : {M : Type 1} → statement M
 put-outcome-spec =

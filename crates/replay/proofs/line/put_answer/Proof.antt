@@ -8,7 +8,7 @@ use Rattle.protocol.specs.Call.{numberOfEvent, acceptedOf, kindOfEvent, verdict
 use Rattle.text.specs.Number.{decimal}
 use Rattle.text.specs.ByteString.{hexWord}
 use Rattle.text.specs.Put.{field, lastField, fields, restWord}
-use Rattle.text.proofs.Puts.{Put, more, same-put}
+use Rattle.text.proofs.Puts.{Put, put-then, same-put}
 use Rattle.replay.specs.Line.{kindWord, verdictWord, answerLine}
 use borrow.Author.Needs.{needs}
 use Rattle.replay.proofs.line.put_answer.Statement.{statement}
@@ -73,13 +73,20 @@ returns c =
     let output = field (hexWord (s .written .now)) in
     let part = field (hexWord (s .part .now)) in
     let a : Put o 0 number _ _ = rw (c .before .before .before .before .before .before .before .before .before .before .before .before .before .before .before .before .before .before .before .before .before .before .before .before .before .before .before .before .before .before .before .before .event-number .ensures) at (c .before .before .before .before .before .before .before .before .before .before .before .before .before .before .before .before .before .before .before .before .before .before .before .before .before .before .before .before .before .before .before .put-number-field .ensures) in
-    let b = more o 0 number judged _ _ _ _ a (c .before .before .before .before .before .before .before .before .before .before .before .before .before .before .before .before .before .before .before .before .before .before .before .before .before .before .before .put-kind-and-verdict .ensures) in
-    let d = more o 0 (number ++ judged) accepted _ _ _ _ b (rw (c .before .before .before .before .before .before .before .before .before .before .before .before .before .before .before .before .before .before .before .before .before .before .before .accepted-count .ensures) at (c .before .before .before .before .before .before .before .before .before .before .before .before .before .before .before .before .before .before .before .before .before .before .put-number-field2 .ensures)) in
-    let e = more o 0 (number ++ judged ++ accepted) count _ _ _ _ d (c .before .before .before .before .before .before .before .before .before .before .before .before .before .before .before .before .before .before .put-number-field3 .ensures) in
-    let f = more o 0 (number ++ judged ++ accepted ++ count) pending _ _ _ _ e (c .before .before .before .before .before .before .before .before .before .before .before .before .before .before .put-number-field4 .ensures) in
-    let g = more o 0 (number ++ judged ++ accepted ++ count ++ pending) output _ _ _ _ f (c .before .before .before .before .before .before .before .before .before .before .put-bytes-field .ensures) in
-    let h = more o 0 (number ++ judged ++ accepted ++ count ++ pending ++ output) part _ _ _ _ g (c .before .before .before .before .before .before .put-bytes-field2 .ensures) in
-    let i = more o 0 (number ++ judged ++ accepted ++ count ++ pending ++ output ++ part) (lastField (restWord (s .kept))) _ _ _ _ h (c .before .before .put-rest .ensures) in
+    let j = c .before .before .before .before .before .before .before .before .before .before .before .before .before .before .before .before .before .before .before .before .before .before .before .before .before .before .before .put-kind-and-verdict .ensures in
+    let b = put-then o 0 number judged (a .0) (a .1) (j .0) (j .1) in
+    let k = rw (c .before .before .before .before .before .before .before .before .before .before .before .before .before .before .before .before .before .before .before .before .before .before .before .accepted-count .ensures) at (c .before .before .before .before .before .before .before .before .before .before .before .before .before .before .before .before .before .before .before .before .before .before .put-number-field2 .ensures) in
+    let d = put-then o 0 (number ++ judged) accepted (b .0) (b .1) (k .0) (k .1) in
+    let m = c .before .before .before .before .before .before .before .before .before .before .before .before .before .before .before .before .before .before .put-number-field3 .ensures in
+    let e = put-then o 0 (number ++ judged ++ accepted) count (d .0) (d .1) (m .0) (m .1) in
+    let n = c .before .before .before .before .before .before .before .before .before .before .before .before .before .before .put-number-field4 .ensures in
+    let f = put-then o 0 (number ++ judged ++ accepted ++ count) pending (e .0) (e .1) (n .0) (n .1) in
+    let q = c .before .before .before .before .before .before .before .before .before .before .put-bytes-field .ensures in
+    let g = put-then o 0 (number ++ judged ++ accepted ++ count ++ pending) output (f .0) (f .1) (q .0) (q .1) in
+    let r = c .before .before .before .before .before .before .put-bytes-field2 .ensures in
+    let h = put-then o 0 (number ++ judged ++ accepted ++ count ++ pending ++ output) part (g .0) (g .1) (r .0) (r .1) in
+    let t = c .before .before .put-rest .ensures in
+    let i = put-then o 0 (number ++ judged ++ accepted ++ count ++ pending ++ output ++ part) (lastField (restWord (s .kept))) (h .0) (h .1) (t .0) (t .1) in
     same-put o 0 _ (answerLine (s .event) (s .pending) (s .written .now) (s .part .now) (s .kept)) _ _ (joined (decimal (numberOfEvent (s .event))) (kindWord (kindOfEvent (s .event))) (verdictWord (verdictOf (s .event))) (decimal (acceptedOf (s .event))) (decimal (length (s .written .now))) (decimal (s .pending)) (hexWord (s .written .now)) (hexWord (s .part .now)) (restWord (s .kept))) i
 
 pub put-answer-spec : {M : Type 1} → statement M

@@ -71,43 +71,43 @@ same-length : tie.Need-same-length
 same-length c = search needs
 
 returns : tie.Need-returns
-returns c = rw (c .before .before .before .before .before .enum-told .given .1) (c .before .before .put-field .ensures)
+returns c = rw (c .before .before .before .before .before .enum-told .given .1) (c .before .before .put-field .ensures .0, c .before .before .put-field .ensures .1)
 
 same-length-2 : tie.Need-same-length-2
 same-length-2 c = search needs
 
 returns-2 : tie.Need-returns-2
-returns-2 c = rw (c .before .before .before .before .before .enum-told2 .given .1) (c .before .before .put-field2 .ensures)
+returns-2 c = rw (c .before .before .before .before .before .enum-told2 .given .1) (c .before .before .put-field2 .ensures .0, c .before .before .put-field2 .ensures .1)
 
 same-length-3 : tie.Need-same-length-3
 same-length-3 c = search needs
 
 returns-3 : tie.Need-returns-3
-returns-3 c = rw (c .before .before .before .before .before .enum-told3 .given .1) (c .before .before .put-field3 .ensures)
+returns-3 c = rw (c .before .before .before .before .before .enum-told3 .given .1) (c .before .before .put-field3 .ensures .0, c .before .before .put-field3 .ensures .1)
 
 same-length-4 : tie.Need-same-length-4
 same-length-4 c = search needs
 
 returns-4 : tie.Need-returns-4
-returns-4 c = rw (c .before .before .before .before .before .enum-told4 .given .1) (c .before .before .put-field4 .ensures)
+returns-4 c = rw (c .before .before .before .before .before .enum-told4 .given .1) (c .before .before .put-field4 .ensures .0, c .before .before .put-field4 .ensures .1)
 
 same-length-5 : tie.Need-same-length-5
 same-length-5 c = search needs
 
 returns-5 : tie.Need-returns-5
-returns-5 c = rw (c .before .before .before .before .before .enum-told5 .given .1) (c .before .before .put-field5 .ensures)
+returns-5 c = rw (c .before .before .before .before .before .enum-told5 .given .1) (c .before .before .put-field5 .ensures .0, c .before .before .put-field5 .ensures .1)
 
 same-length-6 : tie.Need-same-length-6
 same-length-6 c = search needs
 
 returns-6 : tie.Need-returns-6
-returns-6 c = rw (c .before .before .before .before .before .enum-told6 .given .1) (c .before .before .put-field6 .ensures)
+returns-6 c = rw (c .before .before .before .before .before .enum-told6 .given .1) (c .before .before .put-field6 .ensures .0, c .before .before .put-field6 .ensures .1)
 
 same-length-7 : tie.Need-same-length-7
 same-length-7 c = search needs
 
 returns-7 : tie.Need-returns-7
-returns-7 c = rw (c .before .before .before .before .before .enum-told7 .given .1) (c .before .before .put-field7 .ensures)
+returns-7 c = rw (c .before .before .before .before .before .enum-told7 .given .1) (c .before .before .put-field7 .ensures .0, c .before .before .put-field7 .ensures .1)
 
 pub put-kind-and-verdict-spec : {M : Type 1} → statement M
 put-kind-and-verdict-spec =
