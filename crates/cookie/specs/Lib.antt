@@ -1,2 +1,2 @@
--- What the code makes of a cookie that was given.
+-- For the code alone: what it makes of a cookie that was given. What is right and fresh is the protocol crate's.
 pub mod Check

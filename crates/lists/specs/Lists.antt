@@ -1,4 +1,4 @@
--- Lists: counts, sums, the first place of a test, what every element passes, and the replacing of elements by a rule.
+-- Lists: counts, sums, the first place of a test, what every element passes, and elements replaced by a rule or dropped.
 -- Assumes nothing.
 use Prim.Native.Nat.{ℕ, suc, _+_}
 use mathlib.Core.List.{List, [], _∷_, _++_}

@@ -93,7 +93,7 @@ checks v (close t a p) = timely (v .home .started) (v .untimely) ++ addressed (v
 unfoldable pub judged : Listener → Call → Check
 judged l c = refusal (checks (viewOf l c) c)
 
--- close is for an established connection, abandon for one that is not complete
+-- For the code and its laws alone: abandon and close in one. Close is for an established connection, abandon for one that is not complete.
 abbrev pub isReleasable : Bool → Status → Bool
 isReleasable true s = isEstablished s
 isReleasable false s = isWaiting s

@@ -90,7 +90,7 @@ answerFields a =
 unfoldable pub answerBytes : List ℕ → List ℕ → Answer → List ℕ → ℕ → List ℕ
 answerBytes src dst a cookie room = written src dst (answerFields a) cookie [] room
 
--- how many bytes that is: 36 with a fresh cookie, 24 without
+-- how many bytes it has where it is written: 36 with a fresh cookie of 8, 24 without
 abbrev pub answerLength : Bool → ℕ
 answerLength false = 24
 answerLength true = 36

@@ -5,9 +5,9 @@ use mathlib.Core.Path.{_≡_}
 use mathlib.Core.Bool.{Bool}
 use mathlib.Core.List.{List}
 use lib.ListN.{take}
-use Rattle.listener.specs.declared.answer.Event.{Event}
-use Rattle.listener.specs.declared.state.Listener.{Listener}
-use Rattle.listener.specs.Step.{pendingNumber}
+use Rattle.protocol.specs.declared.answer.Event.{Event}
+use Rattle.protocol.specs.declared.state.Listener.{Listener}
+use Rattle.protocol.specs.Step.{pendingNumber}
 use Rattle.text.specs.Output.{isKept}
 use Rattle.text.proofs.Puts.{same-put}
 use Rattle.replay.specs.Line.{answerLine, outcomeLine}
