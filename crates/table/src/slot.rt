@@ -11,7 +11,7 @@ pub fn is_live(time: u64, s: Status) -> bool
         Status::Free => false,
         Status::SynReceived => true,
         Status::FastOpen(_) => true,
-        Status::ResetHeld(end) => time < end,
+        Status::ResetHeld(until) => time < until,
         Status::Established => true,
     }
 }

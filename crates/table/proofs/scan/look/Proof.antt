@@ -1,5 +1,6 @@
 -- `table::scan::look` meets its contract: field by field.
 -- Assumes nothing.
+use mathlib.Core.Path.{refl}
 use Rattle.table.specs.Scan.{seenWith}
 use borrow.Author.Needs.{needs}
 use Rattle.table.proofs.scan.look.Statement.{statement}
@@ -25,7 +26,7 @@ count-if-requires c κs = search needs
 
 returns : tie.Need-returns
 unfolding seenWith
-returns c = rw (c .count-if .ensures, c .before .is-pending .ensures, c .before .before .first-place2 .ensures, c .before .before .before .is-live .ensures, c .before .before .before .before .first-place .ensures, c .before .before .before .before .before .is-named .ensures)
+returns c = rw (c .count-if .ensures, c .before .is-pending .ensures, c .before .before .first-place2 .ensures, c .before .before .before .is-live .ensures, c .before .before .before .before .first-place .ensures, c .before .before .before .before .before .is-named .ensures) refl
 
 pub look-spec : {M : Type 1} → statement M
 look-spec =

@@ -1,5 +1,6 @@
 -- `table::scan::slot_found` meets its contract: by the place.
 -- Assumes nothing.
+use native.Mathlib.Omega.{arith}
 use borrow.Author.Tests.{lt-ltb, le-ltb}
 use borrow.Author.Needs.{needs}
 use Rattle.table.proofs.scan.slot_found.Statement.{statement}
@@ -9,10 +10,10 @@ free-slot-requires : tie.Need-free-slot-requires
 free-slot-requires c κs = search needs
 
 returns : tie.Need-returns
-returns c = simp (lt-ltb _ _ (c .if1 .taken))
+returns c = simp (lt-ltb (c .before .args .i) 64 (omega arith))
 
 returns-2 : tie.Need-returns-2
-returns-2 c = simp (le-ltb _ _ (c .before .if1 .left)) (c .free-slot .ensures)
+returns-2 c = simp (le-ltb (c .before .before .args .i) 64 (omega arith)) (c .free-slot .ensures)
 
 pub slot-found-spec : {M : Type 1} → statement M
 slot-found-spec = tie.close (tie.spec free-slot-requires returns returns-2)

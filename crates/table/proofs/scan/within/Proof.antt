@@ -6,10 +6,10 @@ use Rattle.table.proofs.scan.within.Statement.{statement}
 use Rattle.table.proofs.scan.within.Tie as tie
 
 returns : tie.Need-returns
-returns c = (simp (lt-ltb _ _ (c .if1 .taken)), omega arith)
+returns c = (simp (lt-ltb (c .before .args .i) 64 (omega arith)), omega arith)
 
 returns-2 : tie.Need-returns-2
-returns-2 c = (simp (le-ltb _ _ (c .if1 .left)), omega arith)
+returns-2 c = (simp (le-ltb (c .before .args .i) 64 (omega arith)), omega arith)
 
 pub within-spec : {M : Type 1} → statement M
 within-spec = tie.close (tie.spec returns returns-2)

@@ -1,5 +1,6 @@
 -- `table::slot::after_reset` meets its contract: by the status.
 -- Assumes nothing.
+use mathlib.Core.Path.{refl}
 use borrow.Author.Needs.{needs}
 use Rattle.table.proofs.slot.after_reset.Statement.{statement}
 use Rattle.table.proofs.slot.after_reset.Tie as tie
@@ -26,10 +27,10 @@ returns-2 : tie.Need-returns-2
 returns-2 c = search needs
 
 returns-3 : tie.Need-returns-3
-returns-3 c = simp (c .enum-told3 .given .1)
+returns-3 c = rw (c .enum-told3 .given .1) refl
 
 returns-4 : tie.Need-returns-4
-returns-4 c = simp (c .before .s .given .1)
+returns-4 c = rw (c .before .s .given .1) refl
 
 returns-5 : tie.Need-returns-5
 returns-5 c = search needs

@@ -1,5 +1,6 @@
 -- `table::slot::is_pending` meets its contract: by the status.
 -- Assumes nothing.
+use mathlib.Core.Path.{refl}
 use borrow.Author.Needs.{needs}
 use Rattle.table.proofs.slot.is_pending.Statement.{statement}
 use Rattle.table.proofs.slot.is_pending.Tie as tie
@@ -29,7 +30,7 @@ returns-3 : tie.Need-returns-3
 returns-3 c = search needs
 
 returns-4 : tie.Need-returns-4
-returns-4 c = simp (c .before .s .given .1)
+returns-4 c = simp (c .before .s .given .1) refl
 
 returns-5 : tie.Need-returns-5
 returns-5 c = search needs
