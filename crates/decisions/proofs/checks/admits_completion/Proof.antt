@@ -13,13 +13,17 @@ in-window-requires : tie.Need-in-window-requires
 in-window-requires c κs = search needs
 
 returns : tie.Need-returns
-returns c = not-completed _ _ (c .before .before .expected-of .ensures) (c .before .in-window .ensures) (not-true _ (c .if1 .taken))
+returns c =
+    let a = c .before .before .before .args in
+    not-completed (a .s) (a .h) (c .before .before .expected-of .ensures) (c .before .in-window .ensures) (not-true _ (c .if1 .taken))
 
 next-after-requires : tie.Need-next-after-requires
 next-after-requires c κs = search needs
 
 returns-2 : tie.Need-returns-2
-returns-2 c = completed _ _ (c .before .before .before .before .expected-of .ensures) (c .before .before .before .in-window .ensures) (not-false _ (c .before .before .if1 .left)) (c .before .next-after .ensures)
+returns-2 c =
+    let a = c .before .before .before .before .before .args in
+    completed (a .s) (a .h) (c .before .before .before .before .expected-of .ensures) (c .before .before .before .in-window .ensures) (not-false _ (c .before .before .if1 .left)) (c .before .next-after .ensures)
 
 pub admits-completion-spec : {M : Type 1} → statement M
 admits-completion-spec =

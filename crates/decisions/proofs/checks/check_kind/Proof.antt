@@ -1,5 +1,6 @@
 -- `decisions::checks::check_kind` meets its contract: by the kind.
 -- Assumes nothing.
+use mathlib.Core.Path.{refl}
 use borrow.Author.Needs.{needs}
 use Rattle.decisions.proofs.checks.check_kind.Statement.{statement}
 use Rattle.decisions.proofs.checks.check_kind.Tie as tie
@@ -41,7 +42,7 @@ returns-3 : tie.Need-returns-3
 returns-3 c = simp (c .before .before .enum-told3 .given .1) (rw (c .before .admits-reset .ensures) at (c .check-sequence2 .ensures))
 
 returns-4 : tie.Need-returns-4
-returns-4 c = simp (c .enum-told4 .given .1)
+returns-4 c = simp (c .enum-told4 .given .1) refl
 
 pub check-kind-spec : {M : Type 1} → statement M
 check-kind-spec =

@@ -1,6 +1,6 @@
 -- `decisions::checks::check_sequence` meets its contract: each test with its refusal.
 -- Assumes nothing.
-use mathlib.Core.Path.{sym, _∙_}
+use mathlib.Core.Path.{refl, sym, _∙_}
 use borrow.Author.Tests.{not-true, not-false}
 use borrow.Author.Needs.{needs}
 use Rattle.decisions.proofs.checks.check_sequence.Statement.{statement}
@@ -10,13 +10,13 @@ is-waiting-requires : tie.Need-is-waiting-requires
 is-waiting-requires c κs = search needs
 
 returns : tie.Need-returns
-returns c = simp (sym (c .before .is-waiting .ensures) ∙ not-true _ (c .if1 .taken))
+returns c = simp (sym (c .before .is-waiting .ensures) ∙ not-true _ (c .if1 .taken)) refl
 
 returns-2 : tie.Need-returns-2
-returns-2 c = simp (sym (c .before .before .is-waiting .ensures) ∙ not-false _ (c .before .if1 .left), c .if2 .taken)
+returns-2 c = simp (sym (c .before .before .is-waiting .ensures) ∙ not-false _ (c .before .if1 .left), c .if2 .taken) refl
 
 returns-3 : tie.Need-returns-3
-returns-3 c = simp (sym (c .before .before .is-waiting .ensures) ∙ not-false _ (c .before .if1 .left), c .if2 .left)
+returns-3 c = simp (sym (c .before .before .is-waiting .ensures) ∙ not-false _ (c .before .if1 .left), c .if2 .left) refl
 
 pub check-sequence-spec : {M : Type 1} → statement M
 check-sequence-spec = tie.close (tie.spec is-waiting-requires returns returns-2 returns-3)

@@ -1,6 +1,6 @@
 -- `decisions::checks::check_syn` meets its contract: a free slot is found or not, and a known one repeats or not.
 -- Assumes nothing.
-use mathlib.Core.Path.{sym, _∙_}
+use mathlib.Core.Path.{refl, sym, _∙_}
 use borrow.Author.Needs.{needs}
 use Rattle.decisions.proofs.checks.check_syn.Statement.{statement}
 use Rattle.decisions.proofs.checks.check_syn.Tie as tie
@@ -9,19 +9,19 @@ is-free-requires : tie.Need-is-free-requires
 is-free-requires c κs = search needs
 
 returns : tie.Need-returns
-returns c = simp (sym (c .before .before .is-free .ensures) ∙ c .before .if1 .taken, c .if2 .taken)
+returns c = simp (sym (c .before .before .is-free .ensures) ∙ c .before .if1 .taken, c .if2 .taken) refl
 
 returns-2 : tie.Need-returns-2
-returns-2 c = simp (sym (c .before .before .is-free .ensures) ∙ c .before .if1 .taken, c .if2 .left)
+returns-2 c = simp (sym (c .before .before .is-free .ensures) ∙ c .before .if1 .taken, c .if2 .left) refl
 
 is-repeat-requires : tie.Need-is-repeat-requires
 is-repeat-requires c κs = search needs
 
 returns-3 : tie.Need-returns-3
-returns-3 c = simp (sym (c .before .before .before .is-free .ensures) ∙ c .before .before .if1 .left, sym (c .before .is-repeat .ensures) ∙ c .if3 .taken)
+returns-3 c = simp (sym (c .before .before .before .is-free .ensures) ∙ c .before .before .if1 .left, sym (c .before .is-repeat .ensures) ∙ c .if3 .taken) refl
 
 returns-4 : tie.Need-returns-4
-returns-4 c = simp (sym (c .before .before .before .is-free .ensures) ∙ c .before .before .if1 .left, sym (c .before .is-repeat .ensures) ∙ c .if3 .left)
+returns-4 c = simp (sym (c .before .before .before .is-free .ensures) ∙ c .before .before .if1 .left, sym (c .before .is-repeat .ensures) ∙ c .if3 .left) refl
 
 pub check-syn-spec : {M : Type 1} → statement M
 check-syn-spec =

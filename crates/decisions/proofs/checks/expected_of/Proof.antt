@@ -1,8 +1,5 @@
 -- `decisions::checks::expected_of` meets its contract: the number after the accepted bytes.
 -- Assumes nothing.
-use mathlib.Core.Path.{ap, _∙_}
-use Prim.Native.Nat.{ℕ}
-use Rattle.segment.specs.Sequence.{nextAfter}
 use borrow.Author.Needs.{needs}
 use Rattle.decisions.proofs.checks.expected_of.Statement.{statement}
 use Rattle.decisions.proofs.checks.expected_of.Tie as tie
@@ -14,7 +11,7 @@ next-after-requires : tie.Need-next-after-requires
 next-after-requires c κs = search needs
 
 returns : tie.Need-returns
-returns c = c .next-after .ensures ∙ ap (λ (n : ℕ). nextAfter (c .before .before .args .s .irs) n) (c .before .accepted-with .ensures)
+returns c = rw (c .before .accepted-with .ensures) at (c .next-after .ensures)
 
 pub expected-of-spec : {M : Type 1} → statement M
 expected-of-spec = tie.close (tie.spec accepted-with-requires next-after-requires returns)
