@@ -1,5 +1,6 @@
 -- `listener::calls::blank_listener` meets its contract: 64 slots are free.
 -- Assumes nothing.
+use mathlib.Core.Path.{refl}
 use borrow.Author.Needs.{needs}
 use Rattle.listener.proofs.calls.blank_listener.Statement.{statement}
 use Rattle.listener.proofs.calls.blank_listener.Tie as tie
@@ -8,7 +9,7 @@ free-slot-requires : tie.Need-free-slot-requires
 free-slot-requires c κs = search needs
 
 returns : tie.Need-returns
-returns c = rw (c .free-slot .ensures)
+returns c = rw (c .free-slot .ensures) refl
 
 pub blank-listener-spec : {M : Type 1} → statement M
 blank-listener-spec = tie.close (tie.spec free-slot-requires returns)

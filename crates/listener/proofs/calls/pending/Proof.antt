@@ -1,5 +1,6 @@
 -- `listener::calls::pending` meets its contract: a listener that was started, or not.
 -- Assumes nothing.
+use mathlib.Core.Path.{refl}
 use Rattle.protocol.specs.Step.{pendingNumber}
 use borrow.Author.Needs.{needs}
 use Rattle.listener.proofs.calls.pending.Statement.{statement}
@@ -14,7 +15,7 @@ returns c = simp (c .before .if1 .taken) (c .count-pending .ensures)
 
 returns-2 : tie.Need-returns-2
 unfolding pendingNumber
-returns-2 c = simp (c .if1 .left)
+returns-2 c = simp (c .if1 .left) refl
 
 pub pending-spec : {M : Type 1} → statement M
 pending-spec = tie.close (tie.spec count-pending-requires returns returns-2)

@@ -22,7 +22,9 @@ refused-requires-2 : tie.Need-refused-requires-2
 refused-requires-2 c κs = search needs
 
 returns : tie.Need-returns
-returns c = c .refused2 .ensures ∙ sym (key-bad _ _ _ (sym (c .before .before .before .before .check-time .ensures) ∙ c .before .before .enum-told .given .1) (c .before .if1 .taken))
+returns c =
+    let a = c .before .before .before .before .before .before .before .args in
+    rw (c .refused2 .ensures) (sym (key-bad (a .l) (a .time) (a .key .now) (sym (c .before .before .before .before .check-time .ensures) ∙ c .before .before .enum-told .given .1) (c .before .if1 .taken)))
 
 key-of-requires : tie.Need-key-of-requires
 key-of-requires c κs = search needs
@@ -37,7 +39,9 @@ returns-2 : tie.Need-returns-2
 returns-2 c = c .refused .ensures ∙ sym (key-stopped _ _ _ (sym (c .before .before .before .before .check-time .ensures) ∙ c .before .before .why .given .1))
 
 returns-3 : tie.Need-returns-3
-returns-3 c = rw (c .before .expand-key .ensures, c .before .before .key-of .ensures) at (c .done .ensures) ∙ sym (key-done _ _ _ (sym (c .before .before .before .before .before .before .before .before .check-time .ensures) ∙ c .before .before .before .before .before .before .enum-told .given .1) (c .before .before .before .before .before .if1 .left))
+returns-3 c =
+    let a = c .before .before .before .before .before .before .before .before .before .before .before .args in
+    rw (c .done .ensures, c .before .expand-key .ensures, c .before .before .key-of .ensures) (sym (key-done (a .l) (a .time) (a .key .now) (sym (c .before .before .before .before .before .before .before .before .check-time .ensures) ∙ c .before .before .before .before .before .before .enum-told .given .1) (c .before .before .before .before .before .if1 .left)))
 
 pub set-key-spec : {M : Type 1} → statement M
 set-key-spec =

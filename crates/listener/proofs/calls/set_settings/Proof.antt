@@ -39,7 +39,9 @@ returns-2 : tie.Need-returns-2
 returns-2 c = c .refused .ensures ∙ sym (settings-stopped _ _ _ (sym (c .before .before .before .before .check-time .ensures) ∙ c .before .before .why .given .1))
 
 returns-3 : tie.Need-returns-3
-returns-3 c = c .done .ensures ∙ sym (settings-done _ _ _ (sym (c .before .before .before .before .before .before .check-time .ensures) ∙ c .before .before .before .before .enum-told .given .1) (sym (c .before .before .before .is-in-range .ensures) ∙ not-false _ (c .before .before .if1 .left)))
+returns-3 c =
+    let a = c .before .before .before .before .before .before .before .before .args in
+    rw (c .done .ensures) (sym (settings-done (a .l) (a .time) (a .g) (sym (c .before .before .before .before .before .before .check-time .ensures) ∙ c .before .before .before .before .enum-told .given .1) (sym (c .before .before .before .is-in-range .ensures) ∙ not-false _ (c .before .before .if1 .left))))
 
 pub set-settings-spec : {M : Type 1} → statement M
 set-settings-spec =

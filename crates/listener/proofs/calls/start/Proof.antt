@@ -19,7 +19,7 @@ refused-start-requires c κs = search needs
 returns : tie.Need-returns
 returns c =
     let a = c .before .before .before .before .before .args in
-    c .refused-start .ensures ∙ start-address (a .own .now) (a .port) (a .key .now) (sym (c .before .before .is-size .ensures) ∙ not-true _ (c .before .if1 .taken))
+    rw (c .refused-start .ensures) (start-address (a .own .now) (a .port) (a .key .now) (sym (c .before .before .is-size .ensures) ∙ not-true _ (c .before .if1 .taken)))
 
 refused-start-requires-2 : tie.Need-refused-start-requires-2
 refused-start-requires-2 c κs = search needs
