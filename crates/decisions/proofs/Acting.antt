@@ -17,7 +17,7 @@ use Rattle.protocol.proofs.Openings.{early-is, fresh-is}
 use Rattle.protocol.proofs.Cookies.{carried-found}
 use Rattle.protocol.specs.declared.answer.Event.{Event}
 use Rattle.protocol.specs.declared.answer.Event.the-variants as events
-use Rattle.protocol.specs.declared.table.Slot.{Slot}
+use Rattle.protocol.specs.declared.slots.Slot.{Slot}
 
 -- What a segment's action is to be, by its event
 abbrev pub Acts : View → ℕ → List ℕ → Header → ℕ → List ℕ → Event → Action → Type 0

@@ -8,7 +8,7 @@ use Rattle.segment.specs.Sequence.{nextAfter, inWindow}
 use Rattle.segment.specs.declared.header.Header.{Header}
 use Rattle.protocol.specs.Refusals.{inRange, expected, completes}
 use Rattle.protocol.specs.declared.state.Settings.{Settings}
-use Rattle.protocol.specs.declared.table.Slot.{Slot}
+use Rattle.protocol.specs.declared.slots.Slot.{Slot}
 
 -- a completion's two numbers
 module _ (s : Slot) (h : Header) {x : ℕ} {inside : Bool} (e : x ≡ expected s) (w : inside ≡ inWindow x (h .seq)) where

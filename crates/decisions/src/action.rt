@@ -1,9 +1,9 @@
 // What a segment that was not refused does to its connection.
 use cookie::check_option;
 use protocol::answer::Event;
+use protocol::slots::Slot;
+use protocol::slots::Status;
 use protocol::state::View;
-use protocol::table::Slot;
-use protocol::table::Status;
 use segment::header::Header;
 use segment::header::Kind;
 use segment::header::option_area;

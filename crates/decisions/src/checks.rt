@@ -1,10 +1,10 @@
 // The checks of the calls, in document 01's order; 13, 5 and 2 are endpoint's.
 use endpoint::address::size_of;
 use endpoint::checks::check_name;
+use protocol::slots::Slot;
 use protocol::state::Home;
 use protocol::state::Settings;
 use protocol::state::View;
-use protocol::table::Slot;
 use segment::checksum::is_checksum_right;
 use segment::header::Header;
 use segment::header::Kind;

@@ -1,11 +1,11 @@
 // The listener as a call sees it.
 use endpoint::checks::is_untimely;
+use protocol::slots::Scan;
+use protocol::slots::Slot;
 use protocol::state::Home;
 use protocol::state::InForce;
 use protocol::state::Keys;
 use protocol::state::View;
-use protocol::table::Scan;
-use protocol::table::Slot;
 ghost use mathlib.Core.Path.{_≡_};
 ghost use lib.Dec.{ltb};
 ghost use Rattle.endpoint.specs.Checks.{isUntimely};

@@ -18,10 +18,10 @@ use Rattle.protocol.specs.Step.{put, freed}
 use Rattle.protocol.specs.declared.state.View.{View}
 use Rattle.protocol.specs.declared.state.Listener.{Listener}
 use Rattle.protocol.specs.declared.answer.Event.the-variants as events
-use Rattle.protocol.specs.declared.table.Status.the-variants.{Free}
-use Rattle.protocol.specs.declared.table.Status.the-variants as statuses
-use Rattle.protocol.specs.declared.table.Slot.{Slot}
-use Rattle.protocol.specs.declared.table.Scan.{Scan}
+use Rattle.protocol.specs.declared.slots.Status.the-variants.{Free}
+use Rattle.protocol.specs.declared.slots.Status.the-variants as statuses
+use Rattle.protocol.specs.declared.slots.Slot.{Slot}
+use Rattle.protocol.specs.declared.slots.Scan.{Scan}
 use Rattle.protocol.proofs.Slots.{not-free}
 use Rattle.table.proofs.Scanning.{Seen, seen-start, seen-on, seen-end, slot-read, in-table}
 

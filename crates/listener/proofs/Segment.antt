@@ -29,9 +29,9 @@ use Rattle.protocol.specs.declared.state.Listener.{Listener}
 use Rattle.protocol.specs.declared.answer.Event.{Event}
 use Rattle.protocol.specs.declared.answer.Event.the-variants as events
 use Rattle.decisions.specs.declared.action.Action.{Action}
-use Rattle.protocol.specs.declared.table.Status.the-variants as statuses
-use Rattle.protocol.specs.declared.table.Slot.{Slot}
-use Rattle.protocol.specs.declared.table.Scan.{Scan}
+use Rattle.protocol.specs.declared.slots.Status.the-variants as statuses
+use Rattle.protocol.specs.declared.slots.Slot.{Slot}
+use Rattle.protocol.specs.declared.slots.Scan.{Scan}
 use Rattle.decisions.proofs.Acting.{Acts}
 use Rattle.table.proofs.Scanning.{in-table}
 use Rattle.protocol.proofs.Slots.{not-free}

@@ -1,7 +1,7 @@
 -- The place of the table that a done segment changes. No document has it: it carries `segmentAfter` to the code.
 -- Assumes nothing.
 use Prim.Native.Nat.{ℕ}
-use Rattle.protocol.specs.declared.table.Scan.{Scan}
+use Rattle.protocol.specs.declared.slots.Scan.{Scan}
 use Rattle.protocol.specs.declared.answer.Event.{Event}
 use Rattle.protocol.specs.declared.answer.Event.the-variants as events
 

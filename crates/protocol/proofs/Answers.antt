@@ -23,7 +23,7 @@ use Rattle.protocol.specs.Call.{Call, segment, resend, sender, opening, 
 use Rattle.protocol.specs.View.{ownAddress, view, viewOf}
 use Rattle.protocol.specs.Refusals.{checks, judged}
 use Rattle.protocol.specs.Step.{segmentEvent, isAnswered, freshWith, answerFrom, answerTo, heldUntil, slotAfter, step}
-use Rattle.protocol.specs.declared.table.Slot.{Slot}
+use Rattle.protocol.specs.declared.slots.Slot.{Slot}
 use Rattle.protocol.specs.declared.state.View.{View}
 use Rattle.protocol.specs.declared.state.Listener.{Listener}
 use Rattle.protocol.proofs.Cookies.{cookie-eight}

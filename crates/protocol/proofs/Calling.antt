@@ -35,9 +35,9 @@ use Rattle.protocol.specs.declared.state.Listener.{Listener}
 use Rattle.protocol.specs.declared.answer.Event.{Event}
 use Rattle.protocol.specs.declared.answer.Event.the-variants as events
 use Rattle.protocol.specs.declared.answer.Outcome.{Outcome}
-use Rattle.protocol.specs.declared.table.Status.the-variants as statuses
-use Rattle.protocol.specs.declared.table.Slot.{Slot}
-use Rattle.protocol.specs.declared.table.Scan.{Scan}
+use Rattle.protocol.specs.declared.slots.Status.the-variants as statuses
+use Rattle.protocol.specs.declared.slots.Slot.{Slot}
+use Rattle.protocol.specs.declared.slots.Scan.{Scan}
 use Rattle.protocol.proofs.Judging.{judged-settings, judged-key, judged-release, judged-resend, judged-segment, step-refused, step-done, output-refused, output-done}
 
 abbrev pub refusedWith : Listener → Refusal → Outcome

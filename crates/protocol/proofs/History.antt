@@ -36,9 +36,9 @@ use Rattle.protocol.specs.Step as steps
 use Rattle.protocol.specs.Step.{freshListener, startChecks, startedBy, startOf, newEvent, openingEvent, segmentEvent, doneEvent, heldUntil, slotAfter, moved, put, segmentAfter, freed, inForce, after, outcomeOf, step, pendingNumber}
 use Rattle.protocol.specs.Journal.{Mark, markPlain, markEarly, markOpen, markHeld, Entry, PreviousKey, noKey, aKey, Journal, begun, pendingOf, named, has, kept, only, struck, completed, resetMark, wasReset, with, amended, rightBefore, hasRight, opensEarly, newMark, opened, atTime, segmentNoted, noted, feed, Said, saysNew, saysOpening, saysSegment, saysDone, says}
 use Rattle.protocol.specs.Demand3.{segmentOf, answerSays, listenerAfter, answers, numbered, journalAfter, sayings, Demand3}
-use Rattle.protocol.specs.declared.table.Status.{Status}
-use Rattle.protocol.specs.declared.table.Status.the-variants.{Free, SynReceived, FastOpen, ResetHeld, Established}
-use Rattle.protocol.specs.declared.table.Slot.{Slot}
+use Rattle.protocol.specs.declared.slots.Status.{Status}
+use Rattle.protocol.specs.declared.slots.Status.the-variants.{Free, SynReceived, FastOpen, ResetHeld, Established}
+use Rattle.protocol.specs.declared.slots.Slot.{Slot}
 use Rattle.protocol.specs.declared.state.Keys.{Keys}
 use Rattle.protocol.specs.declared.state.Listener.{Listener}
 use Rattle.protocol.specs.declared.answer.Event.{Event}

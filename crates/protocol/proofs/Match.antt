@@ -17,9 +17,9 @@ use Rattle.endpoint.proofs.Names.{samePeer-eq, samePeer-refl, short}
 use Rattle.lists.proofs.Sums.{sum-ext, sum-le, sum-amend, sum-set, sum-only, amend-amend, amend-ext}
 use Rattle.protocol.specs.Table.{isLive, isPending, holdsPeer, pendingAt, freeSlot}
 use Rattle.protocol.specs.Journal.{Mark, markPlain, markEarly, markOpen, markHeld, Entry, pends, named, keptMark, kept, only}
-use Rattle.protocol.specs.declared.table.Status.{Status}
-use Rattle.protocol.specs.declared.table.Status.the-variants.{Free, SynReceived, FastOpen, ResetHeld, Established}
-use Rattle.protocol.specs.declared.table.Slot.{Slot}
+use Rattle.protocol.specs.declared.slots.Status.{Status}
+use Rattle.protocol.specs.declared.slots.Status.the-variants.{Free, SynReceived, FastOpen, ResetHeld, Established}
+use Rattle.protocol.specs.declared.slots.Slot.{Slot}
 
 -- The entry that a slot stands for
 

@@ -2,8 +2,8 @@
 use mathlib.Core.Path.{_≡_, refl, sym, _∙_}
 use mathlib.Core.Bool.{Bool, true, false, false≢true}
 use Rattle.protocol.specs.Table.{isFree}
-use Rattle.protocol.specs.declared.table.Status.{Status}
-use Rattle.protocol.specs.declared.table.Status.the-variants.{Free, SynReceived, FastOpen, ResetHeld, Established}
+use Rattle.protocol.specs.declared.slots.Status.{Status}
+use Rattle.protocol.specs.declared.slots.Status.the-variants.{Free, SynReceived, FastOpen, ResetHeld, Established}
 
 -- a status that passes a test which the free one fails is not the free one
 pub not-free : (q : Status → Bool) → q Free ≡ false → (x : Status) → q x ≡ true → isFree x ≡ false

@@ -22,9 +22,9 @@ use Rattle.protocol.specs.View.{known, view}
 use Rattle.protocol.specs.Refusals.{wireChecks}
 use Rattle.protocol.specs.Step.{put, step}
 use Rattle.protocol.specs.Twins.{Arrival, callOf, Opens, TwoOpenings, upToRoom, BothEarly}
-use Rattle.protocol.specs.declared.table.Status.{Status}
-use Rattle.protocol.specs.declared.table.Status.the-variants.{Free, SynReceived, FastOpen, ResetHeld, Established}
-use Rattle.protocol.specs.declared.table.Slot.{Slot}
+use Rattle.protocol.specs.declared.slots.Status.{Status}
+use Rattle.protocol.specs.declared.slots.Status.the-variants.{Free, SynReceived, FastOpen, ResetHeld, Established}
+use Rattle.protocol.specs.declared.slots.Slot.{Slot}
 use Rattle.protocol.specs.declared.state.Listener.{Listener}
 use Rattle.protocol.specs.declared.answer.Event.the-variants as events
 use Rattle.protocol.proofs.Openings.{first-found, holding, unknown-none, none-unknown, slotFor, is-early, new-clear, step-new}

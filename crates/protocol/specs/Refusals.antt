@@ -22,8 +22,8 @@ use Rattle.protocol.specs.declared.state.Settings.{Settings}
 use Rattle.protocol.specs.declared.state.Home.{Home}
 use Rattle.protocol.specs.declared.state.View.{View}
 use Rattle.protocol.specs.declared.state.Listener.{Listener}
-use Rattle.protocol.specs.declared.table.Status.{Status}
-use Rattle.protocol.specs.declared.table.Slot.{Slot}
+use Rattle.protocol.specs.declared.slots.Status.{Status}
+use Rattle.protocol.specs.declared.slots.Slot.{Slot}
 
 -- Named checks
 

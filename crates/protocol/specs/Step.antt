@@ -22,9 +22,9 @@ use Rattle.protocol.specs.Table.{acceptedWith, afterReset, freeSlot, new
 use Rattle.protocol.specs.Call.{Call, segment, settings, key, abandon, resend, close, sender}
 use Rattle.protocol.specs.View.{known, ownAddress, scanFor, view, viewOf}
 use Rattle.protocol.specs.Refusals.{isKey, judged}
-use Rattle.protocol.specs.declared.table.Status.the-variants.{Free, SynReceived, FastOpen, Established}
-use Rattle.protocol.specs.declared.table.Slot.{Slot}
-use Rattle.protocol.specs.declared.table.Scan.{Scan}
+use Rattle.protocol.specs.declared.slots.Status.the-variants.{Free, SynReceived, FastOpen, Established}
+use Rattle.protocol.specs.declared.slots.Slot.{Slot}
+use Rattle.protocol.specs.declared.slots.Scan.{Scan}
 use Rattle.protocol.specs.declared.state.Settings.{Settings}
 use Rattle.protocol.specs.declared.state.InForce.{InForce}
 use Rattle.protocol.specs.declared.state.Keys.{Keys}

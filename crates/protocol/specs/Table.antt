@@ -7,10 +7,10 @@ use lib.Dec.{ltb}
 use lib.ListN.{replicate}
 use Rattle.lists.specs.Lists.{tally, firstIndex}
 use Rattle.endpoint.specs.Address.{sameName}
-use Rattle.protocol.specs.declared.table.Status.{Status}
-use Rattle.protocol.specs.declared.table.Status.the-variants.{Free, SynReceived, FastOpen, ResetHeld, Established}
-use Rattle.protocol.specs.declared.table.Slot.{Slot}
-use Rattle.protocol.specs.declared.table.Scan.{Scan}
+use Rattle.protocol.specs.declared.slots.Status.{Status}
+use Rattle.protocol.specs.declared.slots.Status.the-variants.{Free, SynReceived, FastOpen, ResetHeld, Established}
+use Rattle.protocol.specs.declared.slots.Slot.{Slot}
+use Rattle.protocol.specs.declared.slots.Scan.{Scan}
 
 -- The statuses are, in 01's words: free, plain, early, held, open. A slot is live unless it is free or its hold has run out by the time.
 abbrev pub isLive : ℕ → Status → Bool

@@ -14,8 +14,8 @@ use Rattle.protocol.specs.declared.state.Home.{Home}
 use Rattle.protocol.specs.declared.state.InForce.{InForce}
 use Rattle.protocol.specs.declared.state.Listener.{Listener}
 use Rattle.protocol.specs.declared.state.View.{View}
-use Rattle.protocol.specs.declared.table.Slot.{Slot}
-use Rattle.protocol.specs.declared.table.Scan.{Scan}
+use Rattle.protocol.specs.declared.slots.Slot.{Slot}
+use Rattle.protocol.specs.declared.slots.Scan.{Scan}
 
 -- the settings in force at a time
 abbrev pub settingsAt : Listener → ℕ → InForce

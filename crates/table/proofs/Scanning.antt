@@ -14,8 +14,8 @@ use Rattle.lists.proofs.Sums.{bit-most, present}
 use Rattle.lists.proofs.Places.{Counted, counted-on, counted-all}
 use Rattle.protocol.specs.Table.{isLive, isPending, isFree, freeSlot, holdsPeer, scanOf}
 use Rattle.table.specs.Scan.{firstPlace, countIf, seenWith, nothingSeen, withinTable, slotFound}
-use Rattle.protocol.specs.declared.table.Slot.{Slot}
-use Rattle.protocol.specs.declared.table.Scan.{Scan}
+use Rattle.protocol.specs.declared.slots.Slot.{Slot}
+use Rattle.protocol.specs.declared.slots.Scan.{Scan}
 
 module _ (p : Slot → Bool) where
   -- the first place where the test passes, from place i on, where `found` was found before

@@ -5,8 +5,8 @@ use mathlib.Core.List.{List}
 use mathlib.Core.Bool.{Bool, not, cond}
 use lib.Dec.{ltb}
 use Rattle.protocol.specs.Table.{isLive, isPending, freeSlot, holdsPeer}
-use Rattle.protocol.specs.declared.table.Slot.{Slot}
-use Rattle.protocol.specs.declared.table.Scan.{Scan}
+use Rattle.protocol.specs.declared.slots.Slot.{Slot}
+use Rattle.protocol.specs.declared.slots.Scan.{Scan}
 
 -- the place found so far (64 for none), or this place, if the test passes here
 abbrev pub firstPlace : ℕ → ℕ → Bool → ℕ

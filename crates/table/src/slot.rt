@@ -1,6 +1,6 @@
 // What a status says at a time, and the three makers of a slot: free, new, and with another status.
-use protocol::table::Slot;
-use protocol::table::Status;
+use protocol::slots::Slot;
+use protocol::slots::Status;
 ghost use mathlib.Core.Path.{_≡_};
 ghost use Rattle.protocol.specs.Table.{isLive, isPending, isWaiting, isEstablished, isFree, acceptedWith, afterReset, freeSlot, newSlot, withStatus};
 

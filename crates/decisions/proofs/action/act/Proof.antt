@@ -2,7 +2,7 @@
 -- Assumes nothing.
 use mathlib.Core.Path.{refl, sym, ap, _∙_}
 use Rattle.protocol.specs.Table.{withStatus}
-use Rattle.protocol.specs.declared.table.Status.{Status}
+use Rattle.protocol.specs.declared.slots.Status.{Status}
 use Rattle.protocol.specs.declared.answer.Event.the-variants as events
 use Rattle.decisions.proofs.Acting.{acts-as, acts-quiet}
 use borrow.Author.Needs.{needs}
