@@ -22,7 +22,7 @@ use Rattle.protocol.specs.declared.slots.Status.the-variants.{Free}
 use Rattle.protocol.specs.declared.slots.Status.the-variants as statuses
 use Rattle.protocol.specs.declared.slots.Slot.{Slot}
 use Rattle.protocol.specs.declared.slots.Scan.{Scan}
-use Rattle.protocol.proofs.Slots.{not-free}
+use Rattle.protocol.proofs.Statuses.{not-free}
 use Rattle.table.proofs.Scanning.{Seen, seen-start, seen-on, seen-end, slot-read, in-table}
 
 -- The scan's loop, which stands in each call: what is known at place i of the table, at its start, one slot further, and past the table, where the peer's

@@ -34,7 +34,7 @@ use Rattle.protocol.specs.declared.slots.Slot.{Slot}
 use Rattle.protocol.specs.declared.slots.Scan.{Scan}
 use Rattle.decisions.proofs.Acting.{Acts}
 use Rattle.table.proofs.Scanning.{in-table}
-use Rattle.protocol.proofs.Slots.{not-free}
+use Rattle.protocol.proofs.Statuses.{not-free}
 use Rattle.protocol.proofs.Calling.{refusedWith, segment-refused, segment-unanswered, segment-answered}
 
 -- the place that a done segment changes is in the table

@@ -44,7 +44,7 @@ use Rattle.protocol.specs.declared.state.Listener.{Listener}
 use Rattle.protocol.specs.declared.answer.Event.{Event}
 use Rattle.protocol.specs.declared.answer.Event.the-variants as events
 use Rattle.protocol.proofs.Match.{nameOf, entryFor, entryIn, by-entry, stands, Fits, holdsPeer-stands, Thins, Match, stands-tally, pending-same, match-add, Settled, settled, turned-on, pending-settled, settled-amend}
-use Rattle.protocol.proofs.Slots.{not-free}
+use Rattle.protocol.proofs.Statuses.{not-free}
 use Rattle.protocol.proofs.Events.{done-number}
 
 -- The journal beside a listener

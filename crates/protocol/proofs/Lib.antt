@@ -10,7 +10,7 @@ pub mod Cookies
 pub mod Starting
 pub mod Judging
 pub mod Calling
-pub mod Slots
+pub mod Statuses
 pub mod Events
 pub mod Match
 pub mod Openings

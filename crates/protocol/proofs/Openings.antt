@@ -29,7 +29,7 @@ use Rattle.protocol.specs.declared.slots.Status.the-variants.{Free, SynR
 use Rattle.protocol.specs.declared.slots.Slot.{Slot}
 use Rattle.protocol.specs.declared.state.View.{View}
 use Rattle.protocol.specs.declared.state.Listener.{Listener}
-use Rattle.protocol.proofs.Slots.{not-free}
+use Rattle.protocol.proofs.Statuses.{not-free}
 
 -- The table
 
