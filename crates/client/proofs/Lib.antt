@@ -1,14 +1,14 @@
--- The theorems: Remembering (after any calls the memory holds what a record of them says), Openings (how many bytes an opening has), Never (a memory that was
--- never started, and calls that are refused) and Reading (an answer that is taken). The others carry these and the functions' proofs.
-pub mod Remembering
+-- The theorems: History (after any calls the memory holds what a record of them says), Openings (how many bytes an opening has), NeverStarted (a memory that was
+-- never started, and calls that are refused) and Answer (an answer that is taken). The others carry these and the functions' proofs.
+pub mod History
 pub mod Openings
-pub mod Never
-pub mod Reading
-pub mod Recalling
-pub mod Storing
-pub mod Banning
-pub mod Shifting
-pub mod Earliest
-pub mod Judging
-pub mod Calling
-pub mod Parts
+pub mod NeverStarted
+pub mod Answer
+pub mod Recalled
+pub mod Stores
+pub mod AddBan
+pub mod Remembered
+pub mod EndsFirst
+pub mod Refusals
+pub mod Step
+pub mod After

@@ -17,14 +17,14 @@ use Rattle.endpoint.specs.Address.{size}
 use Rattle.endpoint.proofs.Blocks.{one-family}
 use Rattle.client.specs.Cache.{cookieLength, cookieOf}
 use Rattle.client.specs.Call.{connect}
-use Rattle.client.specs.Refusals.{judged}
+use Rattle.client.specs.Refusals.{callCheck}
 use Rattle.client.specs.Step.{sentWith, openingFor, bannedFor, storedFor, step}
-use Rattle.client.specs.declared.answer.ActiveOpen.{ActiveOpen}
+use Rattle.client.specs.declared.outcome.ActiveOpen.{ActiveOpen}
 use Rattle.client.specs.declared.cache.Entry.{Entry}
 use Rattle.client.specs.declared.state.Memory.{Memory}
-use Rattle.client.proofs.Calling.{step-done}
-use Rattle.client.proofs.Parts.{cookie-most, sent-most}
-use Rattle.client.proofs.Reading.{clear-passed}
+use Rattle.client.proofs.Step.{step-done}
+use Rattle.client.proofs.After.{cookie-most, sent-most}
+use Rattle.client.proofs.Answer.{clear-passed}
 
 -- a stored cookie may stand in a Fast Open option
 cookie-allowed : (fast : Bool) (e : Entry) → length (e .cookie) ≡ 16 → optionAllowed fast (length (cookieOf e)) ≡ true
@@ -34,7 +34,7 @@ cookie-allowed fast e h =
     (λ q. allowed-found fast (e .len) 0 (e .len) (record { fits = omega arith; size = cookie-length (e .len) q }))
     (λ _. allowed-request fast))
 
-module _ (m : Memory) (t : ℕ) (own server : List ℕ) (o : ActiveOpen) (offered : List ℕ) (room : ℕ) where
+module _ (m : Memory) (t : ℕ) (own server : List ℕ) (o : ActiveOpen) (offered : List ℕ) (out-len : ℕ) where
   abbrev banned : Bool
   banned = bannedFor m t server o
 
@@ -44,21 +44,21 @@ module _ (m : Memory) (t : ℕ) (own server : List ℕ) (o : ActiveOpen) (offere
   abbrev sent : ℕ
   sent = sentWith (m .family) banned entry (length offered)
 
-  module _ (h : length (entry .cookie) ≡ 16) (clear : judged m (connect t own server o offered room) ≡ Clear) where
+  module _ (h : length (entry .cookie) ≡ 16) (clear : callCheck m (connect t own server o offered out-len) ≡ Clear) where
     data-length : length (take sent offered) ≡ sent
     data-length = length-take-le sent offered (sent-most (m .family) banned entry (length offered) .0)
 
     -- an opening that is not refused can be written
-    pub opening-ready : canWrite own server (openingFields (openingFor banned o)) (cookieOf entry) (take sent offered) room ≡ true
+    pub opening-ready : canWrite own server (openingFields (openingFor banned o)) (cookieOf entry) (take sent offered) out-len ≡ true
     opening-ready =
-        let p = clear-passed m (connect t own server o offered room) clear in
+        let p = clear-passed m (connect t own server o offered out-len) clear in
         let alike = one-family (m .family) own server (not-false _ (p .1 .1 .0)) (not-false _ (p .1 .1 .1 .0)) in
         let most = sent-most (m .family) banned entry (length offered) .1 in
-        opening-can own server (openingFor banned o) (cookieOf entry) (take sent offered) room alike (cookie-allowed (not banned) entry h)
-        (omega (arith, data-length, most)) (ltb-false room 1504 (p .1 .1 .1 .1 .0))
+        opening-can own server (openingFor banned o) (cookieOf entry) (take sent offered) out-len alike (cookie-allowed (not banned) entry h)
+        (omega (arith, data-length, most)) (ltb-false out-len 1504 (p .1 .1 .1 .1 .0))
 
     -- and is written whole: the header, its options, and the data that is sent
-    pub opening-written : step m (connect t own server o offered room) .written ≡ 20 + length (optionBytes (o .mss) (not banned) (cookieOf entry)) + sent
+    pub opening-written : step m (connect t own server o offered out-len) .written ≡ 20 + length (optionBytes (o .mss) (not banned) (cookieOf entry)) + sent
     opening-written =
-        rw (step-done m (connect t own server o offered room) clear)
-        (opening-length own server (openingFor banned o) (cookieOf entry) (take sent offered) room opening-ready ∙ rw data-length)
+        rw (step-done m (connect t own server o offered out-len) clear)
+        (opening-length own server (openingFor banned o) (cookieOf entry) (take sent offered) out-len opening-ready ∙ rw data-length)

@@ -3,10 +3,10 @@
 use Prim.Native.Nat.{ℕ}
 use mathlib.Core.List.{List}
 use Rattle.segment.specs.Refusal.{numberOf}
-use Rattle.client.specs.declared.answer.ActiveOpen.{ActiveOpen}
-use Rattle.client.specs.declared.answer.Attempt.{Attempt}
-use Rattle.client.specs.declared.answer.Event.{Event}
-use Rattle.client.specs.declared.answer.Event.the-variants.{Refused, Opened, Answered, Reported}
+use Rattle.client.specs.declared.outcome.ActiveOpen.{ActiveOpen}
+use Rattle.client.specs.declared.outcome.Attempt.{Attempt}
+use Rattle.client.specs.declared.outcome.Event.{Event}
+use Rattle.client.specs.declared.outcome.Event.the-variants.{Refused, Opened, Answered, Reported}
 
 -- A call with its arguments, the time first. 01's open has own address, the server's address, ports and numbers, the data offered and the output's length; an answer has
 -- both addresses, the attempt and the segment; a failure has the server's address and port.

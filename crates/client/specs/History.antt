@@ -38,7 +38,7 @@ abbrev pub storesWith : List Store → List ℕ → List ℕ → Mss → List St
 storesWith s server cookie mss = cond (isStore cookie mss) (record { address = server; cookie = cookie; mss = mss } ∷ s) s
 
 abbrev pub storesAfter : List Store → Call → ℕ → List Store
-storesAfter s (connect t own server o offered room) number = s
+storesAfter s (connect t own server o offered out-len) number = s
 storesAfter s (answer t own server a seg) number = cond (eqb number 0) (storesWith s server (cookieIn seg) (mssIn seg)) s
 storesAfter s (failed t server port) number = s
 

@@ -5,7 +5,7 @@ use mathlib.Core.List.{List, [], _∷_, _++_}
 use mathlib.Core.Bool.{Bool, not, _&&_}
 use lib.Dec.{ltb, leb, eqb}
 use Rattle.segment.specs.Refusal.{Checks, refusal}
-use Rattle.segment.specs.Header.{malformed, fieldsOf, synAck}
+use Rattle.segment.specs.Header.{malformed, fieldsOf, isSynAck}
 use Rattle.segment.specs.Checksum.{checksumRight}
 use Rattle.segment.specs.Sequence.{acknowledged}
 use Rattle.segment.specs.declared.refusal.Refusal.the-variants.{Format, Checksum, Port, Flags, Sequence, Output, Range}
@@ -15,7 +15,7 @@ use Rattle.segment.specs.declared.header.Header.{Header}
 use Rattle.endpoint.specs.Checks.{isUntimely, timely, addressed}
 use Rattle.endpoint.specs.declared.address.Family.{Family}
 use Rattle.client.specs.Call.{Call, connect, answer, failed}
-use Rattle.client.specs.declared.answer.Attempt.{Attempt}
+use Rattle.client.specs.declared.outcome.Attempt.{Attempt}
 use Rattle.client.specs.declared.checks.Reply.{Reply}
 use Rattle.client.specs.declared.checks.Reply.the-variants.{Dropped, Acknowledged}
 use Rattle.client.specs.declared.state.Memory.{Memory}
@@ -38,8 +38,8 @@ pairChecks started f untimely own server = timely started untimely ++ addressed 
 
 -- 11: an output of under 1,504 bytes
 abbrev pub openChecks : Bool → Family → Bool → List ℕ → List ℕ → ℕ → ℕ → Checks
-openChecks started f untimely own server mss room =
-    pairChecks started f untimely own server ++ ((Output, ltb room 1504) ∷ (Range, not (isMss mss)) ∷ [])
+openChecks started f untimely own server mss out-len =
+    pairChecks started f untimely own server ++ ((Output, ltb out-len 1504) ∷ (Range, not (isMss mss)) ∷ [])
 
 -- of the segment, which goes from the server to us
 abbrev pub wireChecks : List ℕ → List ℕ → Attempt → List ℕ → Checks
@@ -48,7 +48,7 @@ wireChecks own server a seg =
 
 -- as an answer to the attempt: bytes sent above 1,460 are 12, a count above the bytes sent is 10
 abbrev pub replyChecks : Attempt → Header → Checks
-replyChecks a h = (Flags, not (synAck (h .flags))) ∷ (Range, ltb 1460 (a .sent)) ∷ (Sequence, ltb (a .sent) (countIn a h)) ∷ []
+replyChecks a h = (Flags, not (isSynAck (h .flags))) ∷ (Range, ltb 1460 (a .sent)) ∷ (Sequence, ltb (a .sent) (countIn a h)) ∷ []
 
 abbrev pub answerChecks : Bool → Family → Bool → List ℕ → List ℕ → Attempt → List ℕ → Checks
 answerChecks started f untimely own server a seg =
@@ -56,13 +56,13 @@ answerChecks started f untimely own server a seg =
 
 -- the checks of a call
 abbrev pub checks : Memory → Call → Checks
-checks m (connect t own server o offered room) = openChecks (m .started) (m .family) (isUntimely (m .clock) t) own server (o .mss) room
+checks m (connect t own server o offered out-len) = openChecks (m .started) (m .family) (isUntimely (m .clock) t) own server (o .mss) out-len
 checks m (answer t own server a seg) = answerChecks (m .started) (m .family) (isUntimely (m .clock) t) own server a seg
 checks m (failed t server port) = timely (m .started) (isUntimely (m .clock) t) ++ addressed (m .family) server
 
 -- what they come to: the first refusal, in 01's order, that applies
-unfoldable pub judged : Memory → Call → Check
-judged m c = refusal (checks m c)
+unfoldable pub callCheck : Memory → Call → Check
+callCheck m c = refusal (checks m c)
 
 -- an answer that is not refused has its acknowledged count
 abbrev pub judgedReply : Check → Attempt → Header → Reply

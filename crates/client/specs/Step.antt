@@ -22,13 +22,13 @@ use Rattle.endpoint.specs.declared.address.Family.the-variants.{V4}
 use Rattle.client.specs.Cache.{unusedEntry, entryFor, cookieLength, cookieOf, dataRoom, learnedFrom, remembered}
 use Rattle.client.specs.Bans.{noBan, isBanned, addBan}
 use Rattle.client.specs.Call.{Call, connect, answer, failed}
-use Rattle.client.specs.Refusals.{countIn, judged}
-use Rattle.client.specs.declared.answer.ActiveOpen.{ActiveOpen}
-use Rattle.client.specs.declared.answer.Attempt.{Attempt}
-use Rattle.client.specs.declared.answer.Event.{Event}
-use Rattle.client.specs.declared.answer.Event.the-variants as events
-use Rattle.client.specs.declared.answer.Outcome.{Outcome}
-use Rattle.client.specs.declared.answer.Started.{Started}
+use Rattle.client.specs.Refusals.{countIn, callCheck}
+use Rattle.client.specs.declared.outcome.ActiveOpen.{ActiveOpen}
+use Rattle.client.specs.declared.outcome.Attempt.{Attempt}
+use Rattle.client.specs.declared.outcome.Event.{Event}
+use Rattle.client.specs.declared.outcome.Event.the-variants as events
+use Rattle.client.specs.declared.outcome.Outcome.{Outcome}
+use Rattle.client.specs.declared.outcome.Started.{Started}
 use Rattle.client.specs.declared.bans.Ban.{Ban}
 use Rattle.client.specs.declared.cache.Entry.{Entry}
 use Rattle.client.specs.declared.state.Memory.{Memory}
@@ -65,8 +65,8 @@ abbrev pub openingFor : Bool → ActiveOpen → Opening
 openingFor banned o = record { source = o .source; dest = o .dest; iss = o .iss; mss = o .mss; fast = not banned }
 
 abbrev pub openingWith : Family → Bool → Entry → List ℕ → List ℕ → ActiveOpen → List ℕ → ℕ → List ℕ
-openingWith f banned e own server o offered room =
-    openingBytes own server (openingFor banned o) (cookieOf e) (take (sentWith f banned e (length offered)) offered) room
+openingWith f banned e own server o offered out-len =
+    openingBytes own server (openingFor banned o) (cookieOf e) (take (sentWith f banned e (length offered)) offered) out-len
 
 -- An answer
 
@@ -110,7 +110,7 @@ abbrev pub moved : Memory → ℕ → List Entry → List Ban → Memory
 moved m t es bans = record { cache = es; bans = bans; started = m .started; family = m .family; clock = t }
 
 unfoldable pub after : Memory → Call → Memory
-after m (connect t own server o offered room) = moved m t (m .cache) (m .bans)
+after m (connect t own server o offered out-len) = moved m t (m .cache) (m .bans)
 after m (answer t own server a seg) =
     moved m t (cacheAfter (block server) (cookieIn seg) (mssIn seg) (m .cache))
     (bansAfter t (block server) (a .dest) (isNegative a seg) (m .bans))
@@ -124,12 +124,12 @@ abbrev pub storedFor : Memory → List ℕ → Entry
 storedFor m server = entryFor (block server) (m .cache)
 
 abbrev pub doneEvent : Memory → Call → Event
-doneEvent m (connect t own server o offered room) = events.Opened (sentWith (m .family) (bannedFor m t server o) (storedFor m server) (length offered))
+doneEvent m (connect t own server o offered out-len) = events.Opened (sentWith (m .family) (bannedFor m t server o) (storedFor m server) (length offered))
 doneEvent m (answer t own server a seg) = events.Answered (countIn a (fieldsOf seg))
 doneEvent m (failed t server port) = events.Reported
 
 abbrev pub doneOutput : Memory → Call → List ℕ
-doneOutput m (connect t own server o offered room) = openingWith (m .family) (bannedFor m t server o) (storedFor m server) own server o offered room
+doneOutput m (connect t own server o offered out-len) = openingWith (m .family) (bannedFor m t server o) (storedFor m server) own server o offered out-len
 doneOutput m (answer t own server a seg) = []
 doneOutput m (failed t server port) = []
 
@@ -140,7 +140,7 @@ outcomeOf m c Clear = record { memory = after m c; event = doneEvent m c; writte
 outcomeOf m c (Refused r) = record { memory = m; event = events.Refused r; written = 0 }
 
 unfoldable pub step : Memory → Call → Outcome
-step m c = outcomeOf m c (judged m c)
+step m c = outcomeOf m c (callCheck m c)
 
 abbrev pub outputIf : Memory → Call → Check → List ℕ
 outputIf m c Clear = doneOutput m c
@@ -148,4 +148,4 @@ outputIf m c (Refused r) = []
 
 -- what a call writes at the output's start
 unfoldable pub outputOf : Memory → Call → List ℕ
-outputOf m c = outputIf m c (judged m c)
+outputOf m c = outputIf m c (callCheck m c)

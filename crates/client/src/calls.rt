@@ -1,9 +1,4 @@
 // The start and the calls. Each call carries a time in ms and answers the memory next; a refused one answers the memory as it was and leaves the output alone.
-use crate::answer::ActiveOpen;
-use crate::answer::Attempt;
-use crate::answer::Event;
-use crate::answer::Outcome;
-use crate::answer::Started;
 use crate::bans::is_banned;
 use crate::bans::no_ban;
 use crate::bans::set_ban;
@@ -17,6 +12,11 @@ use crate::cache::unused_entry;
 use crate::checks::Reply;
 use crate::checks::check_answer;
 use crate::checks::check_open;
+use crate::outcome::ActiveOpen;
+use crate::outcome::Attempt;
+use crate::outcome::Event;
+use crate::outcome::Outcome;
+use crate::outcome::Started;
 use crate::state::Memory;
 use endpoint::address::Family;
 use endpoint::address::block_of;
@@ -108,8 +108,8 @@ fn sent_with(family: Family, banned: bool, e: Entry, offered: usize) -> usize
     if cookie_length(e) == 0 {
         return 0;
     }
-    let room = data_room(family, e) as usize;
-    if offered < room { offered } else { room }
+    let most = data_room(family, e) as usize;
+    if offered < most { offered } else { most }
 }
 
 // Writes an opening to a server, as the memory has it at the time: an output of under 1,504 bytes is refused. The answer says how many bytes of data were sent.

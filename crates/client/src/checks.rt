@@ -1,5 +1,5 @@
 // The checks of the calls, in document 01's order.
-use crate::answer::Attempt;
+use crate::outcome::Attempt;
 use endpoint::address::Family;
 use endpoint::address::is_address;
 use endpoint::checks::check_name;
@@ -59,14 +59,14 @@ pub(crate) fn check_open(
     own: &[u8],
     server: &[u8],
     mss: u32,
-    room: usize,
+    out_len: usize,
 ) -> Check
-    ensures { λ r. ⌜ r ≡ refusal (openChecks started family (isUntimely clock time) (now (own .entry)) (now (server .entry)) mss room) ⌝ }
+    ensures { λ r. ⌜ r ≡ refusal (openChecks started family (isUntimely clock time) (now (own .entry)) (now (server .entry)) mss «out_len») ⌝ }
 {
     match check_pair(started, family, clock, time, own, server) {
         Check::Refused(why) => Check::Refused(why),
         Check::Clear => {
-            if room < 1504 {
+            if out_len < 1504 {
                 return Check::Refused(Refusal::Output);
             }
             if !is_mss(mss) {

@@ -2,9 +2,9 @@
 //
 // A memory goes into each call by value and comes back in its answer. No call has a precondition: whatever memory, bytes, times and numbers come, it is done or
 // refused with one of document 01's numbers, and a refused call changes nothing. The definitions that the contracts cite are in specs/.
-pub mod answer;
 pub mod bans;
 pub mod cache;
 pub mod calls;
 mod checks;
+pub mod outcome;
 pub mod state;

@@ -7,8 +7,8 @@ use lib.ListN.{length, take}
 use Rattle.segment.specs.declared.refusal.Check.{Check}
 use Rattle.segment.specs.declared.refusal.Check.the-variants.{Clear}
 use Rattle.segment.specs.declared.refusal.Check.the-variants.{Refused as CheckRefused}
-use Rattle.client.specs.declared.answer.Event.{Event}
-use Rattle.client.specs.declared.answer.Event.the-variants.{Refused, Reported}
+use Rattle.client.specs.declared.outcome.Event.{Event}
+use Rattle.client.specs.declared.outcome.Event.the-variants.{Refused, Reported}
 use Rattle.client.specs.Call.{numberOfEvent, countOf}
 use Rattle.text.specs.Number.{decimal}
 use Rattle.text.specs.ByteString.{hexWord}
@@ -16,8 +16,8 @@ use Rattle.text.specs.Output.{isKept}
 use Rattle.text.specs.Put.{fields, restWord}
 
 -- NUMBER COUNT WRITTEN OUTPUT REST
-unfoldable pub answerLine : Event → List ℕ → Bool → List ℕ
-answerLine event written kept =
+unfoldable pub lineOf : Event → List ℕ → Bool → List ℕ
+lineOf event written kept =
     fields
     (decimal (numberOfEvent event)
     ∷ decimal (countOf event)
@@ -28,7 +28,7 @@ answerLine event written kept =
 
 -- what a call came to: OUTPUT is the bytes written to the lent output, and REST tells of the others
 unfoldable pub outcomeLine : Event → List ℕ → ℕ → List ℕ
-outcomeLine event lent written = answerLine event (take written lent) (isKept written lent)
+outcomeLine event lent written = lineOf event (take written lent) (isKept written lent)
 
 -- a start prints like a report
 abbrev pub eventOf : Check → Event

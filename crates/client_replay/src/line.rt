@@ -1,7 +1,7 @@
 // The line that a call's answer prints.
-use client::answer::Event;
-use client::answer::event_count;
-use client::answer::event_number;
+use client::outcome::Event;
+use client::outcome::event_count;
+use client::outcome::event_number;
 use segment::refusal::Check;
 use text::output::is_kept;
 use text::part::first;
@@ -11,7 +11,7 @@ use text::put::put_rest;
 ghost use mathlib.Core.Path.{_≡_};
 ghost use lib.ListN.{length};
 ghost use Rattle.text.specs.Put.{placeAfter, laid};
-ghost use Rattle.client_replay.specs.Line.{answerLine, outcomeLine, eventOf};
+ghost use Rattle.client_replay.specs.Line.{lineOf, outcomeLine, eventOf};
 
 // Puts the line of what a call came to at the buffer's start, and says where it ends: `lent` is the output that was lent to it.
 pub(crate) fn put_outcome(out: &mut [u8], event: Event, lent: &[u8], written: usize) -> usize
@@ -19,13 +19,13 @@ pub(crate) fn put_outcome(out: &mut [u8], event: Event, lent: &[u8], written: us
     ensures { λ _. ⌜ now (out .exit) ≡ laid 0 (outcomeLine event (now (lent .entry)) written) (now (out .entry)) ⌝ }
 {
     let kept = is_kept(lent, written);
-    put_answer(out, event, first(lent, written), kept)
+    put_fields(out, event, first(lent, written), kept)
 }
 
 // Puts the fields of an answer.
-fn put_answer(out: &mut [u8], event: Event, written: &[u8], kept: bool) -> usize
-    ensures { λ r. ⌜ r ≡ placeAfter 0 (length (answerLine event (now (written .entry)) kept)) (length (now (out .entry))) ⌝ }
-    ensures { λ _. ⌜ now (out .exit) ≡ laid 0 (answerLine event (now (written .entry)) kept) (now (out .entry)) ⌝ }
+fn put_fields(out: &mut [u8], event: Event, written: &[u8], kept: bool) -> usize
+    ensures { λ r. ⌜ r ≡ placeAfter 0 (length (lineOf event (now (written .entry)) kept)) (length (now (out .entry))) ⌝ }
+    ensures { λ _. ⌜ now (out .exit) ≡ laid 0 (lineOf event (now (written .entry)) kept) (now (out .entry)) ⌝ }
 {
     let a = put_number_field(out, 0, event_number(event) as u64);
     let b = put_number_field(out, a, event_count(event) as u64);

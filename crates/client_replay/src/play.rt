@@ -1,14 +1,14 @@
 // A line of the script: read, played on the memory, answered.
 use crate::line::event_of;
 use crate::line::put_outcome;
-use client::answer::ActiveOpen;
-use client::answer::Attempt;
-use client::answer::Event;
-use client::answer::Outcome;
 use client::calls::answer;
 use client::calls::connect;
 use client::calls::failed;
 use client::calls::start;
+use client::outcome::ActiveOpen;
+use client::outcome::Attempt;
+use client::outcome::Event;
+use client::outcome::Outcome;
 use client::state::Memory;
 use libc::STDOUT_FILENO;
 use text::bytestring::ByteString;
@@ -126,10 +126,10 @@ fn lend_connect(
     o: ActiveOpen,
     data: &[u8],
     out: &mut [u8],
-    room: usize,
+    out_len: usize,
 ) -> Outcome {
-    if room < out.len() {
-        return connect(m, time, own, server, o, data, &mut out[..room]);
+    if out_len < out.len() {
+        return connect(m, time, own, server, o, data, &mut out[..out_len]);
     }
     connect(m, time, own, server, o, data, out)
 }
@@ -157,7 +157,7 @@ fn play_open(m: Memory, line: &[u8]) -> Memory {
     let Number32::Value(mss) = read_number32(word_at(line, 7)) else {
         return bad_line(m);
     };
-    let Number::Value(room) = read_number(word_at(line, 8), MOST_OUTPUT as u64) else {
+    let Number::Value(out_len) = read_number(word_at(line, 8), MOST_OUTPUT as u64) else {
         return bad_line(m);
     };
     let ByteString::Count(n) = read_bytes(word_at(line, 9), &mut data) else {
@@ -176,10 +176,10 @@ fn play_open(m: Memory, line: &[u8]) -> Memory {
         },
         first(&data, n),
         &mut out,
-        room as usize,
+        out_len as usize,
     );
     let event = o.event;
-    print_outcome(event, first(&out, room as usize), o.written);
+    print_outcome(event, first(&out, out_len as usize), o.written);
     o.memory
 }
 

@@ -1,2 +1,2 @@
 -- What the functions' proofs cite.
-pub mod Considering
+pub mod CheckOption

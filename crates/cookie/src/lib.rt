@@ -1,7 +1,7 @@
 // The Fast Open cookie: made, compared, and checked for an opening.
 use cipher::encrypt;
 use protocol::state::Keys;
-use segment::options::FastOpen;
+use segment::options::FastOpenOption;
 use segment::options::cookie;
 ghost use mathlib.Core.Path.{_≡_};
 ghost use lib.ListN.{take};
@@ -91,7 +91,13 @@ fn no_option() -> OptionCheck
 }
 
 // What is made of the option that was found in an area. Where cookies do not run, nothing is computed.
-pub fn check_option(run: bool, keys: Keys, b: [u8; 16], area: &[u8], fast: FastOpen) -> OptionCheck
+pub fn check_option(
+    run: bool,
+    keys: Keys,
+    b: [u8; 16],
+    area: &[u8],
+    fast: FastOpenOption,
+) -> OptionCheck
     ensures { λ r. ⌜ r .right ≡ run && right keys b (found fast (now (area .entry))) ⌝ }
     ensures { λ r. ⌜ r .fresh ≡ run && (counts (found fast (now (area .entry))) && not (rightUnder (keys .present) b (found fast (now (area .entry))))) ⌝ }
     ensures { λ r. ⌜ (r .fresh ≡ true → r .cookie ≡ cookieUnder (keys .present) b) ⌝ }
@@ -100,15 +106,15 @@ pub fn check_option(run: bool, keys: Keys, b: [u8; 16], area: &[u8], fast: FastO
         return no_option();
     }
     match fast {
-        FastOpen::Absent => no_option(),
-        FastOpen::Request => {
+        FastOpenOption::Absent => no_option(),
+        FastOpenOption::Request => {
             let present = keys.present;
             checked(false, true, make_cookie(present, b))
         }
-        FastOpen::Cookie { at, len } => check_cookie(
+        FastOpenOption::Cookie { at, len } => check_cookie(
             keys,
             b,
-            cookie(area, FastOpen::Cookie { at, len }),
+            cookie(area, FastOpenOption::Cookie { at, len }),
         ),
     }
 }

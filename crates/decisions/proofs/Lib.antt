@@ -1,4 +1,4 @@
 -- What the functions' proofs cite.
-pub mod Tests
-pub mod Receiving
-pub mod Acting
+pub mod IsInRange
+pub mod Receive
+pub mod Act

@@ -1,6 +1,6 @@
 // What a segment that was not refused does to its connection.
 use cookie::check_option;
-use protocol::answer::Event;
+use protocol::outcome::Event;
 use protocol::slots::Slot;
 use protocol::slots::Status;
 use protocol::state::View;
@@ -18,7 +18,7 @@ ghost use mathlib.Core.Bool.{true, false};
 ghost use Prim.Native.Nat.{min};
 ghost use lib.ListN.{length};
 ghost use Rattle.protocol.specs.Cookie.{cookieUnder};
-ghost use Rattle.protocol.specs.Step.{cookiesRun, openingEvent, segmentEvent, slotAfter, freshWith, isAnswered};
+ghost use Rattle.protocol.specs.Step.{cookiesRun, openingEvent, segmentEvent, slotAfter, freshWith, writesSynAck};
 
 // What happened, the connection's slot after it, and the fresh cookie if one goes with the answer.
 pub struct Action {
@@ -41,14 +41,14 @@ fn without_cookie(event: Event, slot: Slot) -> Action
 }
 
 // How many bytes of a payload are accepted: no more than the early room.
-fn accept(payload: &[u8], room: u32) -> u32
-    ensures { λ r. ⌜ r ≡ min (length (now (payload .entry))) room ⌝ }
+fn accept(payload: &[u8], early_room: u32) -> u32
+    ensures { λ r. ⌜ r ≡ min (length (now (payload .entry))) «early_room» ⌝ }
 {
     let n = payload.len();
-    if n < room as usize {
+    if n < early_room as usize {
         return n as u32;
     }
-    room
+    early_room
 }
 
 // Cookies are taken and given while Fast Open is on and pending is below the limit.
@@ -73,10 +73,10 @@ fn open_new(v: View, end: u64, b: [u8; 16], h: Header, iss: u32, seg: &[u8]) -> 
     let cookie = option.cookie;
     if option.right {
         let g = v.settings;
-        let n = accept(payload(seg), g.room);
+        let n = accept(payload(seg), g.early_room);
         return Action {
-            event: Event::FastOpen(n),
-            slot: new_slot(b, h.source, h.seq, iss, Status::FastOpen(n)),
+            event: Event::FastOpened(n),
+            slot: new_slot(b, h.source, h.seq, iss, Status::SynReceivedEarly(n)),
             fresh: option.fresh,
             cookie,
         };
@@ -112,12 +112,12 @@ pub fn act(v: View, end: u64, b: [u8; 16], h: Header, iss: u32, seg: &[u8], kind
 }
 
 // Openings are answered.
-pub fn is_answered(e: Event) -> bool
-    ensures { λ r. ⌜ r ≡ isAnswered e ⌝ }
+pub fn writes_syn_ack(e: Event) -> bool
+    ensures { λ r. ⌜ r ≡ writesSynAck e ⌝ }
 {
     match e {
         Event::Refused(_) => false,
-        Event::FastOpen(_) => true,
+        Event::FastOpened(_) => true,
         Event::Regular => true,
         Event::Retransmission => true,
         Event::Completed => false,

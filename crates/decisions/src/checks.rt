@@ -2,7 +2,7 @@
 use endpoint::address::size_of;
 use endpoint::checks::check_name;
 use protocol::slots::Slot;
-use protocol::state::Home;
+use protocol::state::LocalEndpoint;
 use protocol::state::Settings;
 use protocol::state::View;
 use segment::checksum::is_checksum_right;
@@ -22,18 +22,24 @@ ghost use mathlib.Core.List.{_++_};
 ghost use Rattle.segment.specs.Refusal.{refusal};
 ghost use Rattle.segment.specs.Header.{fieldsOf};
 ghost use Rattle.endpoint.specs.Checks.{isUntimely, timely, addressed};
-ghost use Rattle.protocol.specs.Refusals.{inRange, repeats, completes, resets, expected, roomy, sequenceChecks, kindChecks, wireChecks};
+ghost use Rattle.protocol.specs.Refusals.{inRange, repeats, completes, resets, expected, outputChecks, sequenceChecks, kindChecks, wireChecks};
 ghost use Rattle.decisions.specs.Received.{received};
 
 // 13, 5, 2 and 11: the longest answer has 36 bytes.
-pub fn check_output(home: Home, clock: u64, time: u64, addr: &[u8], room: usize) -> Check
-    ensures { λ r. ⌜ r ≡ refusal (timely (home .started) (isUntimely clock time) ++ addressed (home .family) (now (addr .entry)) ++ roomy room) ⌝ }
+pub fn check_output(
+    local: LocalEndpoint,
+    clock: u64,
+    time: u64,
+    addr: &[u8],
+    out_len: usize,
+) -> Check
+    ensures { λ r. ⌜ r ≡ refusal (timely (local .started) (isUntimely clock time) ++ addressed (local .family) (now (addr .entry)) ++ outputChecks «out_len») ⌝ }
 {
-    let family = home.family;
-    match check_name(home.started, family, clock, time, addr) {
+    let family = local.family;
+    match check_name(local.started, family, clock, time, addr) {
         Check::Refused(why) => Check::Refused(why),
         Check::Clear => {
-            if room < 36 {
+            if out_len < 36 {
                 Check::Refused(Refusal::Output)
             } else {
                 Check::Clear
@@ -49,21 +55,28 @@ pub enum Received {
 }
 
 // 13, 5, 2, 11, 1, 3 and 4.
-pub fn receive(home: Home, clock: u64, time: u64, src: &[u8], seg: &[u8], room: usize) -> Received
-    ensures { λ r. ⌜ r ≡ received (refusal (wireChecks home (isUntimely clock time) (now (src .entry)) (now (seg .entry)) room)) (fieldsOf (now (seg .entry))) ⌝ }
+pub fn receive(
+    local: LocalEndpoint,
+    clock: u64,
+    time: u64,
+    src: &[u8],
+    seg: &[u8],
+    out_len: usize,
+) -> Received
+    ensures { λ r. ⌜ r ≡ received (refusal (wireChecks local (isUntimely clock time) (now (src .entry)) (now (seg .entry)) «out_len»)) (fieldsOf (now (seg .entry))) ⌝ }
 {
-    match check_output(home, clock, time, src, room) {
+    match check_output(local, clock, time, src, out_len) {
         Check::Refused(why) => Received::Dropped(why),
         Check::Clear => match read_header(seg) {
             Shape::Malformed => Received::Dropped(Refusal::Format),
             Shape::WellFormed(h) => {
-                let family = home.family;
-                let own = home.own;
+                let family = local.family;
+                let own = local.own;
                 let n = size_of(family);
                 if !is_checksum_right(src, &own[..n], seg) {
                     return Received::Dropped(Refusal::Checksum);
                 }
-                if h.dest != home.port {
+                if h.dest != local.port {
                     return Received::Dropped(Refusal::Port);
                 }
                 Received::Read(h)
@@ -159,7 +172,7 @@ pub fn is_in_range(g: Settings) -> bool
     if 64 < g.limit {
         return false;
     }
-    if 1460 < g.room {
+    if 1460 < g.early_room {
         return false;
     }
     if 65535 < g.hold {

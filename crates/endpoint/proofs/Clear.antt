@@ -8,7 +8,7 @@ use Rattle.segment.specs.declared.refusal.Refusal.{Refusal}
 use Rattle.segment.specs.declared.refusal.Refusal.the-variants.{Format, Address, Checksum, Port, Time, Flags, NameInUse, TableFull, NoConnection, Sequence, Output, Range, NotStarted}
 use Rattle.segment.specs.declared.refusal.Check.the-variants.{Clear}
 use Rattle.lists.proofs.Bools.{or-false}
-use Rattle.segment.proofs.Numbers.{None, none-applies}
+use Rattle.segment.proofs.NumberOf.{None, none-applies}
 use Rattle.lists.proofs.Sums.{All}
 
 -- every refusal has a place in the order

@@ -1,4 +1,4 @@
--- The theorem: Handshake. Opening and Answer carry it, each one way of the exchange.
+-- The theorem: Handshake. Opening and SynAck carry it, each one way of the exchange.
 pub mod Handshake
 pub mod Opening
-pub mod Answer
+pub mod SynAck

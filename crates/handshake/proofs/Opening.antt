@@ -19,8 +19,8 @@ use Rattle.segment.specs.declared.header.Kind.the-variants.{Syn}
 use Rattle.segment.specs.declared.options.Options.{Options}
 use Rattle.segment.specs.declared.write.Opening.{Opening}
 use Rattle.lists.proofs.ByteLists.{bytes-take}
-use Rattle.segment.proofs.Formed.{well-shaped}
-use Rattle.segment.proofs.Agreement.{ReadBack, foundFor}
+use Rattle.segment.proofs.Malformed.{well-shaped}
+use Rattle.segment.proofs.ReadBack.{ReadBack, foundFor}
 use Rattle.segment.proofs.Exchange.{opening-fits, opening-read, opening-kind}
 use Rattle.endpoint.specs.Address.{size, isAddress, block}
 use Rattle.endpoint.specs.Checks.{isUntimely}
@@ -29,20 +29,20 @@ use Rattle.endpoint.proofs.Chain as chains
 use Rattle.endpoint.proofs.Clear.{Passed}
 use Rattle.protocol.specs.Cookie.{cookie, found, cookieUnder, carriedBy, right}
 use Rattle.protocol.specs.View.{ownAddress, viewOf}
-use Rattle.protocol.specs.Refusals.{wireChecks, kindChecks, judged}
+use Rattle.protocol.specs.Refusals.{wireChecks, kindChecks, callCheck}
 use Rattle.protocol.specs.declared.state.Listener.{Listener}
-use Rattle.protocol.proofs.Judging.{judged-segment}
-use Rattle.protocol.proofs.Cookies.{cookie-eight, issued-right, right-now, right-before, carried-found}
+use Rattle.protocol.proofs.Refusals.{checked-segment}
+use Rattle.protocol.proofs.Cookie.{cookie-eight, issued-right, right-now, right-before, carried-found}
 use Rattle.client.specs.Cache.{cookieLength}
 use Rattle.client.specs.Call.{countOf}
 use Rattle.client.specs.Refusals.{checks}
 use Rattle.client.specs.Step.{sentWith, openingFor, storedFor}
-use Rattle.client.specs.declared.answer.Outcome.{Outcome}
+use Rattle.client.specs.declared.outcome.Outcome.{Outcome}
 use Rattle.client.specs.declared.state.Memory.{Memory}
-use Rattle.client.proofs.Calling.{step-done, output-done}
+use Rattle.client.proofs.Step.{step-done, output-done}
 use Rattle.client.proofs.Openings.{opening-ready}
-use Rattle.client.proofs.Parts.{cookie-most, sent-most}
-use Rattle.client.proofs.Reading.{clear-passed, mss-most}
+use Rattle.client.proofs.After.{cookie-most, sent-most}
+use Rattle.client.proofs.Answer.{clear-passed, mss-most}
 use Rattle.handshake.specs.Handshake.{Asked, asking, opening, sent, Arrival, arriving, Ends, carriedWith, stored, isBanned, OpeningRead, Listens, Issued, present, previous}
 
 -- the option, as it was put there
@@ -83,10 +83,10 @@ module _ (m : Memory) (l : Listener) (a : Asked) (e : Ends m l a) where
   read : ReadBack (a .own) (a .server) (openingFields fields) (stored m a) (take count (a .offered)) (opening m a)
   read =
       let data′ = take count (a .offered) in
-      let can = opening-ready m (a .time) (a .own) (a .server) (a .ends) (a .offered) (a .room) (e .stored-length) (e .done) in
+      let can = opening-ready m (a .time) (a .own) (a .server) (a .ends) (a .offered) (a .out-len) (e .stored-length) (e .done) in
       let fits = opening-fits fields (e .source) (e .dest) (e .iss) (omega (arith, mss-most (a .ends .mss) (not-false _ (passed .1 .1 .1 .1 .1 .0)))) in
       subst (ReadBack (a .own) (a .server) (openingFields fields) (stored m a) data′) (sym (output-done m (asking a) (e .done)))
-      (opening-read (a .own) (a .server) fields (stored m a) data′ (a .room) can fits (e .own-bytes) (e .server-bytes)
+      (opening-read (a .own) (a .server) fields (stored m a) data′ (a .out-len) can fits (e .own-bytes) (e .server-bytes)
       (bytes-take (cookieLength (storedFor m (a .server))) (storedFor m (a .server) .cookie) (e .stored-bytes)) (bytes-take count (a .offered) (e .offered-bytes)))
 
   pub opening-read-by-listener : OpeningRead m a
@@ -110,22 +110,22 @@ module _ (m : Memory) (l : Listener) (a : Asked) (e : Ends m l a) where
   payload-length = ap length (opening-read-by-listener .content) ∙ length-take-le (sent m a) (a .offered) (sent-fits .0)
 
   -- the listener's address has the client's length
-  listener-family : isAddress (l .home .family) (a .own) ≡ true
+  listener-family : isAddress (l .local .family) (a .own) ≡ true
   listener-family =
-      let n : size (l .home .family) ≡ length (a .server) = own-part (l .home .family) (l .home .own) refl (e .home-length) ∙ ap length (e .address) in
-      eq-eqb (length (a .own)) (size (l .home .family))
+      let n : size (l .local .family) ≡ length (a .server) = own-part (l .local .family) (l .local .own) refl (e .local-length) ∙ ap length (e .address) in
+      eq-eqb (length (a .own)) (size (l .local .family))
       (eqb-true (length (a .own)) (size (m .family)) own-family ∙ sym (eqb-true (length (a .server)) (size (m .family)) server-family) ∙ sym n)
 
   pub wire-clear : (h : Arrival) → Listens l h
-      → refusal (wireChecks (l .home) (isUntimely (l .clock) (h .time)) (a .own) (opening m a) (h .room)) ≡ Clear
+      → refusal (wireChecks (l .local) (isUntimely (l .clock) (h .time)) (a .own) (opening m a) (h .out-len)) ≡ Clear
   wire-clear h g =
       let o = opening-read-by-listener in
-      let sum : checksumRight (a .own) (ownAddress (l .home)) (opening m a) ≡ true = rw (e .address) (o .checksum) in
-      rw (g .started, g .timely, listener-family, le-ltb (h .room) 36 (g .room), o .formed, sum, eq-eqb (fieldsOf (opening m a) .dest) (l .home .port) (o .dest ∙ sym (e .port)))
+      let sum : checksumRight (a .own) (ownAddress (l .local)) (opening m a) ≡ true = rw (e .address) (o .checksum) in
+      rw (g .started, g .timely, listener-family, le-ltb (h .out-len) 36 (g .out-len), o .formed, sum, eq-eqb (fieldsOf (opening m a) .dest) (l .local .port) (o .dest ∙ sym (e .port)))
 
-  pub kind-judged : (h : Arrival) → Listens l h → judged l (arriving m a h) ≡ refusal (kindChecks (viewOf l (arriving m a h)) (fieldsOf (opening m a)) Syn)
-  kind-judged h g =
-      chains.passed _ _ _ (judged-segment l (h .time) (a .own) (opening m a) (h .iss) (h .room)) (wire-clear h g)
+  pub kind-checked : (h : Arrival) → Listens l h → callCheck l (arriving m a h) ≡ refusal (kindChecks (viewOf l (arriving m a h)) (fieldsOf (opening m a)) Syn)
+  kind-checked h g =
+      chains.passed _ _ _ (checked-segment l (h .time) (a .own) (opening m a) (h .iss) (h .out-len)) (wire-clear h g)
       ∙ ap (λ (k : Kind). refusal (kindChecks (viewOf l (arriving m a h)) (fieldsOf (opening m a)) k)) (opening-read-by-listener .kind)
 
   -- no data goes with a request

@@ -26,16 +26,16 @@ use Rattle.protocol.specs.Step.{isFresh}
 use Rattle.protocol.specs.Step as listener
 use Rattle.protocol.specs.declared.state.Keys.{Keys}
 use Rattle.protocol.specs.declared.state.Listener.{Listener}
-use Rattle.protocol.specs.declared.answer.Event.the-variants as events
+use Rattle.protocol.specs.declared.outcome.Event.the-variants as events
 use Rattle.client.specs.Cache.{cookieOf}
 use Rattle.client.specs.Call.{connect, answer, countOf}
 use Rattle.client.specs.Call as client-calls
 use Rattle.client.specs.Refusals as client-checks
 use Rattle.client.specs.Step.{cookieIn, bannedFor, storedFor}
 use Rattle.client.specs.Step as client
-use Rattle.client.specs.declared.answer.ActiveOpen.{ActiveOpen}
-use Rattle.client.specs.declared.answer.Attempt.{Attempt}
-use Rattle.client.specs.declared.answer.Event.the-variants.{Answered}
+use Rattle.client.specs.declared.outcome.ActiveOpen.{ActiveOpen}
+use Rattle.client.specs.declared.outcome.Attempt.{Attempt}
+use Rattle.client.specs.declared.outcome.Event.the-variants.{Answered}
 use Rattle.client.specs.declared.state.Memory.{Memory}
 
 -- The three calls: the client opens, the listener takes the opening, the client takes the answer.
@@ -47,10 +47,10 @@ pub record Asked : Type 0 where
   pub server : List ℕ
   pub ends : ActiveOpen
   pub offered : List ℕ
-  pub room : ℕ
+  pub out-len : ℕ
 
 abbrev pub asking : Asked → client-calls.Call
-asking a = connect (a .time) (a .own) (a .server) (a .ends) (a .offered) (a .room)
+asking a = connect (a .time) (a .own) (a .server) (a .ends) (a .offered) (a .out-len)
 
 -- the opening that it writes, and how many of the bytes offered it says it sent
 abbrev pub opening : Memory → Asked → List ℕ
@@ -63,10 +63,10 @@ sent m a = countOf (client.step m (asking a) .event)
 pub record Arrival : Type 0 where
   pub time : ℕ
   pub iss : ℕ
-  pub room : ℕ
+  pub out-len : ℕ
 
 abbrev pub arriving : Memory → Asked → Arrival → listener-calls.Call
-arriving m a h = segment (h .time) (a .own) (opening m a) (h .iss) (h .room)
+arriving m a h = segment (h .time) (a .own) (opening m a) (h .iss) (h .out-len)
 
 -- the answer that the listener writes, and how many bytes it accepted
 abbrev pub reply : Memory → Listener → Asked → Arrival → List ℕ
@@ -86,10 +86,10 @@ returning m l a h t = answer t (a .own) (a .server) (attempted m a) (reply m l a
 
 pub record Ends (m : Memory) (l : Listener) (a : Asked) : Type 0 where
   -- the client's call is done
-  pub done : client-checks.judged m (asking a) ≡ Clear
+  pub done : client-checks.callCheck m (asking a) ≡ Clear
   -- the listener has the address and the port that the client calls
-  pub address : ownAddress (l .home) ≡ a .server
-  pub port : l .home .port ≡ a .ends .dest
+  pub address : ownAddress (l .local) ≡ a .server
+  pub port : l .local .port ≡ a .ends .dest
   -- numbers and arrays are such as the calls' types allow
   pub source : a .ends .source < 65536
   pub dest : a .ends .dest < 65536
@@ -99,7 +99,7 @@ pub record Ends (m : Memory) (l : Listener) (a : Asked) : Type 0 where
   pub offered-bytes : Bytes (a .offered)
   pub stored-length : length (storedFor m (a .server) .cookie) ≡ 16
   pub stored-bytes : Bytes (storedFor m (a .server) .cookie)
-  pub home-length : length (l .home .own) ≡ 16
+  pub local-length : length (l .local .own) ≡ 16
   pub key-bytes : Bytes (l .keys .present)
   pub mss : l .settings .mss < 65536
 
@@ -130,9 +130,9 @@ pub record OpeningRead (m : Memory) (a : Asked) : Type 0 where
 
 -- a listener that was started, a time that it takes, and room for the longest answer
 pub record Listens (l : Listener) (h : Arrival) : Type 0 where
-  pub started : l .home .started ≡ true
+  pub started : l .local .started ≡ true
   pub timely : isUntimely (l .clock) (h .time) ≡ false
-  pub room : 36 ≤ h .room
+  pub out-len : 36 ≤ h .out-len
 
 -- a cookie that the listener issued for the address with this block: under its present key, or under the previous one if there is one
 pub data Issued (k : Keys) (b c : List ℕ) : Type 0 where
@@ -143,7 +143,7 @@ pub data Issued (k : Keys) (b c : List ℕ) : Type 0 where
 
 -- the listener's call is done and the client's name is new to it; its initial number is such as the call's type allows
 pub record Taken (m : Memory) (l : Listener) (a : Asked) (h : Arrival) : Type 0 where
-  pub clear : listener-checks.judged l (arriving m a h) ≡ Clear
+  pub clear : listener-checks.callCheck l (arriving m a h) ≡ Clear
   pub new : known (viewOf l (arriving m a h)) ≡ false
   pub iss : h .iss < 2 ^ 32
 
@@ -162,7 +162,7 @@ abbrev pub current : Listener → Asked → List ℕ
 current l a = cookieUnder (l .keys .present) (block (a .own))
 
 -- the client takes it, with the count that the listener accepted, its MSS and, if there is one, its fresh cookie, and both are stored then
-pub record AnswerRead (m : Memory) (l : Listener) (a : Asked) (h : Arrival) (m′ : Memory) (t : ℕ) : Type 0 where
+pub record SynAckRead (m : Memory) (l : Listener) (a : Asked) (h : Arrival) (m′ : Memory) (t : ℕ) : Type 0 where
   pub event : client.step m′ (returning m l a h t) .event ≡ Answered (accepted m l a h)
   pub mss : optionsOf (reply m l a h) .mss ≡ Given (l .settings .mss)
   pub cookie : cookieIn (reply m l a h) ≡ cond (renewed m l a h) (current l a) []
@@ -189,14 +189,14 @@ pub record CookieRequest (m : Memory) (l : Listener) (a : Asked) (h : Arrival) (
   pub kept : stored (client.step m′ (returning m l a h t) .memory) a ≡ current l a
 
 -- the bytes sent, up to the early room
-abbrev pub upToRoom : Memory → Listener → Asked → ℕ
-upToRoom m l a = min (sent m a) (l .settings .room)
+abbrev pub upToEarlyRoom : Memory → Listener → Asked → ℕ
+upToEarlyRoom m l a = min (sent m a) (l .settings .«early_room»)
 
 -- the listener hands over the data at once, and the client learns how much of it
 pub record EarlyData (m : Memory) (l : Listener) (a : Asked) (h : Arrival) (m′ : Memory) (t : ℕ) : Type 0 where
-  pub event : listener.step l (arriving m a h) .event ≡ events.FastOpen (upToRoom m l a)
-  pub part : acceptedPart (opening m a) (listener.step l (arriving m a h) .event) ≡ take (upToRoom m l a) (a .offered)
-  pub answered : client.step m′ (returning m l a h t) .event ≡ Answered (upToRoom m l a)
+  pub event : listener.step l (arriving m a h) .event ≡ events.FastOpened (upToEarlyRoom m l a)
+  pub part : acceptedPart (opening m a) (listener.step l (arriving m a h) .event) ≡ take (upToEarlyRoom m l a) (a .offered)
+  pub answered : client.step m′ (returning m l a h t) .event ≡ Answered (upToEarlyRoom m l a)
 
 -- All of it
 
@@ -204,11 +204,11 @@ pub record Handshake (m : Memory) (l : Listener) (a : Asked) : Type 0 where
   -- the listener reads the opening as the client meant it
   pub opened : OpeningRead m a
   -- and has no refusal for it but those of an opening, 7 and 8
-  pub judged-by-kind : (h : Arrival) → Listens l h → listener-checks.judged l (arriving m a h) ≡ refusal (kindChecks (viewOf l (arriving m a h)) (fieldsOf (opening m a)) Syn)
+  pub checked-by-kind : (h : Arrival) → Listens l h → listener-checks.callCheck l (arriving m a h) ≡ refusal (kindChecks (viewOf l (arriving m a h)) (fieldsOf (opening m a)) Syn)
   -- a cookie that it issued is right
   pub right-cookie : isBanned m a ≡ false → Issued (l .keys) (block (a .own)) (stored m a) → right (l .keys) (block (a .own)) (carriedBy (opening m a)) ≡ true
   -- the client reads the answer as the listener meant it
-  pub answered : (h : Arrival) → Taken m l a h → (m′ : Memory) (t : ℕ) → Later m m′ t → AnswerRead m l a h m′ t
+  pub answered : (h : Arrival) → Taken m l a h → (m′ : Memory) (t : ℕ) → Later m m′ t → SynAckRead m l a h m′ t
   -- without a cookie, and with one that was issued
   pub requested : (h : Arrival) → Admits m l a h → stored m a ≡ [] → (m′ : Memory) (t : ℕ) → Later m m′ t → CookieRequest m l a h m′ t
   pub early : (h : Arrival) → Admits m l a h → Issued (l .keys) (block (a .own)) (stored m a) → (m′ : Memory) (t : ℕ) → Later m m′ t

@@ -2,15 +2,15 @@
 -- Assumes nothing.
 use Prim.Native.Nat.{ℕ}
 use Rattle.protocol.specs.declared.slots.Scan.{Scan}
-use Rattle.protocol.specs.declared.answer.Event.{Event}
-use Rattle.protocol.specs.declared.answer.Event.the-variants as events
+use Rattle.protocol.specs.declared.outcome.Event.{Event}
+use Rattle.protocol.specs.declared.outcome.Event.the-variants as events
 
 -- 64, past the table, for none
 abbrev pub placeOf : Event → Scan → ℕ
-placeOf (events.FastOpen n) seen = seen .free
-placeOf events.Regular seen = seen .free
-placeOf events.Retransmission seen = seen .place
-placeOf events.Completed seen = seen .place
-placeOf events.WasReset seen = seen .place
-placeOf events.Done seen = 64
-placeOf (events.Refused r) seen = 64
+placeOf (events.FastOpened n) scan = scan .free
+placeOf events.Regular scan = scan .free
+placeOf events.Retransmission scan = scan .place
+placeOf events.Completed scan = scan .place
+placeOf events.WasReset scan = scan .place
+placeOf events.Done scan = 64
+placeOf (events.Refused r) scan = 64

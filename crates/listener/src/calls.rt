@@ -5,7 +5,7 @@
 // next listener, which it makes only after its first checks; and each of its ends is a `return`.
 use cipher::expand_key;
 use decisions::action::act;
-use decisions::action::is_answered;
+use decisions::action::writes_syn_ack;
 use decisions::checks::Received;
 use decisions::checks::check_kind;
 use decisions::checks::check_output;
@@ -19,27 +19,27 @@ use endpoint::address::is_size;
 use endpoint::address::size_of;
 use endpoint::checks::check_name;
 use endpoint::checks::check_time;
-use protocol::answer::Event;
-use protocol::answer::Outcome;
-use protocol::answer::Started;
+use protocol::outcome::Event;
+use protocol::outcome::Outcome;
+use protocol::outcome::Started;
 use protocol::slots::Scan;
 use protocol::slots::Slot;
 use protocol::slots::Status;
-use protocol::state::Home;
 use protocol::state::InForce;
 use protocol::state::Keys;
 use protocol::state::Listener;
+use protocol::state::LocalEndpoint;
 use protocol::state::Settings;
 use segment::header::kind_of;
 use segment::refusal::Check;
 use segment::refusal::Refusal;
-use segment::write::Answer;
-use segment::write::write_answer;
+use segment::write::SynAck;
+use segment::write::write_syn_ack;
 use table::scan::count_if;
-use table::scan::look;
-use table::scan::nothing_seen;
+use table::scan::empty_scan;
+use table::scan::index_in_table;
+use table::scan::scan_slot;
 use table::scan::slot_found;
-use table::scan::within;
 use table::slot::accepted_with;
 use table::slot::free_slot;
 use table::slot::is_established;
@@ -49,14 +49,14 @@ use table::slot::with_status;
 ghost use mathlib.Core.Path.{_≡_};
 ghost use Prim.Native.Nat.{_≤_};
 ghost use lib.ListN.{length};
-ghost use Rattle.segment.specs.Write.{answerBytes};
+ghost use Rattle.segment.specs.Write.{synAckBytes};
 ghost use Rattle.lists.specs.Bytes.{overwrite};
 ghost use Rattle.protocol.specs.Table.{pendingAt};
 ghost use Rattle.listener.specs.Place.{placeOf};
 ghost use Rattle.protocol.specs.View.{ownAddress};
 ghost use Rattle.protocol.specs.Call.{Call};
 ghost use Rattle.protocol.specs.Refusals.{isReleasable, releaseOf};
-ghost use Rattle.protocol.specs.Step.{blank, freshListener, neverStarted, startOf, answerFrom, step, outputOf, pendingNumber};
+ghost use Rattle.protocol.specs.Step.{blank, freshListener, neverStarted, startOf, synAckFrom, step, outputOf, pendingNumber};
 
 // A refused call changes nothing.
 fn refused(l: Listener, why: Refusal) -> Outcome
@@ -81,18 +81,18 @@ fn done(l: Listener) -> Outcome
 }
 
 // A listener with no connection, at time 0.
-fn blank_listener(home: Home, keys: Keys) -> Listener
-    ensures { λ r. ⌜ r ≡ blank home keys ⌝ }
+fn blank_listener(local: LocalEndpoint, keys: Keys) -> Listener
+    ensures { λ r. ⌜ r ≡ blank local keys ⌝ }
 {
     let slot = free_slot();
     Listener {
         slots: [slot; 64],
         keys,
-        home,
+        local,
         settings: InForce {
             on: false,
             limit: 0,
-            room: 0,
+            early_room: 0,
             hold: 0,
             mss: 536,
         },
@@ -104,7 +104,7 @@ fn blank_listener(home: Home, keys: Keys) -> Listener
 pub fn never_started() -> Listener
     ensures { λ r. ⌜ r ≡ neverStarted ⌝ }
 {
-    let home = Home {
+    let local = LocalEndpoint {
         started: false,
         family: Family::V4,
         own: [0u8; 16],
@@ -115,7 +115,7 @@ pub fn never_started() -> Listener
         previous: [0u8; 176],
         rotated: false,
     };
-    blank_listener(home, keys)
+    blank_listener(local, keys)
 }
 
 // A key of 16 bytes.
@@ -135,7 +135,7 @@ fn fresh_listener(own: &[u8], port: u16, key: &[u8]) -> Listener
     let block = block_of(own);
     let present = expand_key(key_of(key));
     let family = family_of(own.len());
-    let home = Home {
+    let local = LocalEndpoint {
         started: true,
         family,
         own: block,
@@ -146,7 +146,7 @@ fn fresh_listener(own: &[u8], port: u16, key: &[u8]) -> Listener
         previous: [0u8; 176],
         rotated: false,
     };
-    blank_listener(home, keys)
+    blank_listener(local, keys)
 }
 
 fn refused_start(why: Refusal) -> Started
@@ -177,22 +177,22 @@ pub fn start(own: &[u8], port: u16, key: &[u8]) -> Started
 // Writes the answer from a slot.
 fn write_from(
     out: &mut [u8],
-    home: Home,
+    local: LocalEndpoint,
     mss: u16,
     dst: &[u8],
     s: Slot,
     fresh: bool,
     cookie: [u8; 8],
 ) -> usize
-    ensures { λ r. ⌜ r ≡ length (answerBytes (ownAddress home) (now (dst .entry)) (answerFrom home mss s fresh) cookie (length (now (out .entry)))) ⌝ }
-    ensures { λ _. ⌜ now (out .exit) ≡ overwrite (answerBytes (ownAddress home) (now (dst .entry)) (answerFrom home mss s fresh) cookie (length (now (out .entry)))) (now (out .entry)) ⌝ }
+    ensures { λ r. ⌜ r ≡ length (synAckBytes (ownAddress local) (now (dst .entry)) (synAckFrom local mss s fresh) cookie (length (now (out .entry)))) ⌝ }
+    ensures { λ _. ⌜ now (out .exit) ≡ overwrite (synAckBytes (ownAddress local) (now (dst .entry)) (synAckFrom local mss s fresh) cookie (length (now (out .entry)))) (now (out .entry)) ⌝ }
 {
-    let family = home.family;
-    let own = home.own;
+    let family = local.family;
+    let own = local.own;
     let n = size_of(family);
     let status = s.status;
-    let a = Answer {
-        source: home.port,
+    let a = SynAck {
+        source: local.port,
         dest: s.port,
         iss: s.iss,
         irs: s.irs,
@@ -200,20 +200,20 @@ fn write_from(
         mss,
         fresh,
     };
-    write_answer(out, &own[..n], dst, a, cookie)
+    write_syn_ack(out, &own[..n], dst, a, cookie)
 }
 
 // The place whose slot a done segment changes, 64 for none: a new connection takes the lowest free one, a known one keeps its own.
-fn place_of(event: Event, seen: Scan) -> usize
-    ensures { λ r. ⌜ r ≡ placeOf event seen ⌝ }
+fn place_of(event: Event, scan: Scan) -> usize
+    ensures { λ r. ⌜ r ≡ placeOf event scan ⌝ }
 {
     match event {
         Event::Refused(_) => 64,
-        Event::FastOpen(_) => seen.free,
-        Event::Regular => seen.free,
-        Event::Retransmission => seen.place,
-        Event::Completed => seen.place,
-        Event::WasReset => seen.place,
+        Event::FastOpened(_) => scan.free,
+        Event::Regular => scan.free,
+        Event::Retransmission => scan.place,
+        Event::Completed => scan.place,
+        Event::WasReset => scan.place,
         Event::Done => 64,
     }
 }
@@ -224,26 +224,26 @@ pub fn segment(l: Listener, time: u64, src: &[u8], seg: &[u8], iss: u32, out: &m
     ensures { λ r. ⌜ r ≡ step l (Call.segment time (now (src .entry)) (now (seg .entry)) iss (length (now (out .entry)))) ⌝ }
     ensures { λ _. ⌜ now (out .exit) ≡ overwrite (outputOf l (Call.segment time (now (src .entry)) (now (seg .entry)) iss (length (now (out .entry))))) (now (out .entry)) ⌝ }
 {
-    let home = l.home;
-    match receive(home, l.clock, time, src, seg, out.len()) {
+    let local = l.local;
+    match receive(local, l.clock, time, src, seg, out.len()) {
         Received::Dropped(why) => {
             return refused(l, why);
         }
         Received::Read(h) => {
             let mut next = l;
             let b = block_of(src);
-            let mut seen = nothing_seen();
+            let mut scan = empty_scan();
             for i in 0..64 {
                 let s = next.slots[i];
-                let more = look(seen, i, time, b, h.source, s);
-                seen = more;
+                let more = scan_slot(scan, i, time, b, h.source, s);
+                scan = more;
             }
-            let at = within(seen.place);
+            let at = index_in_table(scan.place);
             let s = next.slots[at];
-            let slot = slot_found(seen.place, s);
+            let slot = slot_found(scan.place, s);
             let settings = next.settings;
             let keys = next.keys;
-            let v = view_of(home, next.clock, settings, keys, time, seen, slot);
+            let v = view_of(local, next.clock, settings, keys, time, scan, slot);
             let kind = kind_of(h.flags);
             match check_kind(v, h, kind) {
                 Check::Refused(why) => {
@@ -255,10 +255,10 @@ pub fn segment(l: Listener, time: u64, src: &[u8], seg: &[u8], iss: u32, out: &m
                     let event = action.event;
                     let changed = action.slot;
                     let cookie = action.cookie;
-                    let i = place_of(event, seen);
+                    let i = place_of(event, scan);
                     next.slots[i] = changed;
                     next.clock = time;
-                    if !is_answered(event) {
+                    if !writes_syn_ack(event) {
                         return Outcome {
                             listener: next,
                             event,
@@ -267,7 +267,7 @@ pub fn segment(l: Listener, time: u64, src: &[u8], seg: &[u8], iss: u32, out: &m
                     }
                     let written = write_from(
                         out,
-                        home,
+                        local,
                         settings.mss,
                         src,
                         changed,
@@ -289,8 +289,8 @@ pub fn segment(l: Listener, time: u64, src: &[u8], seg: &[u8], iss: u32, out: &m
 pub fn set_settings(mut l: Listener, time: u64, g: Settings) -> Outcome
     ensures { λ r. ⌜ r ≡ step l (Call.settings time g) ⌝ }
 {
-    let home = l.home;
-    match check_time(home.started, l.clock, time) {
+    let local = l.local;
+    match check_time(local.started, l.clock, time) {
         Check::Refused(why) => refused(l, why),
         Check::Clear => {
             if !is_in_range(g) {
@@ -299,7 +299,7 @@ pub fn set_settings(mut l: Listener, time: u64, g: Settings) -> Outcome
             let kept = InForce {
                 on: g.on,
                 limit: g.limit,
-                room: g.room,
+                early_room: g.early_room,
                 hold: g.hold,
                 mss: g.mss as u16,
             };
@@ -314,8 +314,8 @@ pub fn set_settings(mut l: Listener, time: u64, g: Settings) -> Outcome
 pub fn set_key(mut l: Listener, time: u64, key: &[u8]) -> Outcome
     ensures { λ r. ⌜ r ≡ step l (Call.key time (now (key .entry))) ⌝ }
 {
-    let home = l.home;
-    match check_time(home.started, l.clock, time) {
+    let local = l.local;
+    match check_time(local.started, l.clock, time) {
         Check::Refused(why) => refused(l, why),
         Check::Clear => {
             if key.len() != 16 {
@@ -339,23 +339,23 @@ pub fn set_key(mut l: Listener, time: u64, key: &[u8]) -> Outcome
 fn free_named(l: Listener, time: u64, addr: &[u8], port: u16, established: bool) -> Outcome
     ensures { λ r. ⌜ r ≡ step l (releaseOf established time (now (addr .entry)) port) ⌝ }
 {
-    let home = l.home;
-    let family = home.family;
-    match check_name(home.started, family, l.clock, time, addr) {
+    let local = l.local;
+    let family = local.family;
+    match check_name(local.started, family, l.clock, time, addr) {
         Check::Refused(why) => {
             return refused(l, why);
         }
         Check::Clear => {
             let mut next = l;
             let b = block_of(addr);
-            let mut seen = nothing_seen();
+            let mut scan = empty_scan();
             for i in 0..64 {
                 let s = next.slots[i];
-                let more = look(seen, i, time, b, port, s);
-                seen = more;
+                let more = scan_slot(scan, i, time, b, port, s);
+                scan = more;
             }
-            let place = seen.place;
-            let at = within(place);
+            let place = scan.place;
+            let at = index_in_table(place);
             let s = next.slots[at];
             let slot = slot_found(place, s);
             let status = slot.status;
@@ -398,30 +398,30 @@ pub fn resend(l: Listener, time: u64, addr: &[u8], port: u16, out: &mut [u8]) ->
     ensures { λ r. ⌜ r ≡ step l (Call.resend time (now (addr .entry)) port (length (now (out .entry)))) ⌝ }
     ensures { λ _. ⌜ now (out .exit) ≡ overwrite (outputOf l (Call.resend time (now (addr .entry)) port (length (now (out .entry))))) (now (out .entry)) ⌝ }
 {
-    let home = l.home;
-    match check_output(home, l.clock, time, addr, out.len()) {
+    let local = l.local;
+    match check_output(local, l.clock, time, addr, out.len()) {
         Check::Refused(why) => {
             return refused(l, why);
         }
         Check::Clear => {
             let mut next = l;
             let b = block_of(addr);
-            let mut seen = nothing_seen();
+            let mut scan = empty_scan();
             for i in 0..64 {
                 let s = next.slots[i];
-                let more = look(seen, i, time, b, port, s);
-                seen = more;
+                let more = scan_slot(scan, i, time, b, port, s);
+                scan = more;
             }
-            let at = within(seen.place);
+            let at = index_in_table(scan.place);
             let s = next.slots[at];
-            let slot = slot_found(seen.place, s);
+            let slot = slot_found(scan.place, s);
             let status = slot.status;
             if !is_waiting(status) {
                 return refused(next, Refusal::NoConnection);
             }
             let settings = next.settings;
             let cookie = [0u8; 8];
-            let written = write_from(out, home, settings.mss, addr, slot, false, cookie);
+            let written = write_from(out, local, settings.mss, addr, slot, false, cookie);
             next.clock = time;
             return Outcome {
                 listener: next,
@@ -451,8 +451,8 @@ fn count_pending(l: Listener) -> u32
 pub fn pending(l: Listener) -> u32
     ensures { λ r. ⌜ r ≡ pendingNumber l ⌝ }
 {
-    let home = l.home;
-    if home.started {
+    let local = l.local;
+    if local.started {
         return count_pending(l);
     }
     0

@@ -10,7 +10,7 @@ use lib.ListN.{length, getD, set, List·getD-eq-default}
 use Rattle.segment.specs.Refusal.{order, Checks, refusal}
 use Rattle.segment.specs.Header.{fieldsOf, kindOf}
 use Rattle.lists.proofs.Bools.{and-true}
-use Rattle.segment.proofs.Numbers.{none-applies}
+use Rattle.segment.proofs.NumberOf.{none-applies}
 use Rattle.segment.specs.declared.refusal.Refusal.the-variants.{TableFull}
 use Rattle.segment.specs.declared.refusal.Check.the-variants.{Clear}
 use Rattle.segment.specs.declared.header.Kind.the-variants.{Syn}
@@ -22,14 +22,14 @@ use Rattle.protocol.specs.Cookie.{request, carriedBy, counts, rightUnder
 use Rattle.protocol.specs.Table.{isLive, isPending, isFree, freeSlot, newSlot, holdsPeer, freePlace, pendingAt}
 use Rattle.protocol.specs.Call.{segment, sender}
 use Rattle.protocol.specs.View.{known, view}
-use Rattle.protocol.specs.Refusals.{wireChecks, judged}
-use Rattle.protocol.specs.Step.{cookiesRun, accepts, isEarly, isFresh, newEvent, answerTo, put, after, step}
+use Rattle.protocol.specs.Refusals.{wireChecks, callCheck}
+use Rattle.protocol.specs.Step.{cookiesRun, accepts, isEarly, isFresh, newEvent, synAckTo, put, after, step}
 use Rattle.protocol.specs.declared.slots.Status.{Status}
-use Rattle.protocol.specs.declared.slots.Status.the-variants.{Free, SynReceived, FastOpen, ResetHeld, Established}
+use Rattle.protocol.specs.declared.slots.Status.the-variants.{Free, SynReceived, SynReceivedEarly, ResetHeld, Established}
 use Rattle.protocol.specs.declared.slots.Slot.{Slot}
 use Rattle.protocol.specs.declared.state.View.{View}
 use Rattle.protocol.specs.declared.state.Listener.{Listener}
-use Rattle.protocol.proofs.Statuses.{not-free}
+use Rattle.protocol.proofs.Table.{not-free}
 
 -- The table
 
@@ -71,7 +71,7 @@ module _ (l : Listener) (t : ℕ) (p : Peer) where
 idle : (t : ℕ) (s : Status) → isLive t s ≡ false → isPending t s ≡ false
 idle t Free e = refl
 idle t SynReceived e = refl
-idle t (FastOpen n) e = e
+idle t (SynReceivedEarly n) e = e
 idle t (ResetHeld end) e = e
 idle t Established e = refl
 
@@ -87,7 +87,7 @@ pending-put t slots s h =
 
 -- the slot of its connection, early or plain
 abbrev newStatus : Bool → ℕ → Status
-newStatus true n = FastOpen n
+newStatus true n = SynReceivedEarly n
 newStatus false n = SynReceived
 
 abbrev pub slotFor : Bool → List ℕ → List ℕ → ℕ → ℕ → Slot
@@ -95,12 +95,12 @@ slotFor early src seg iss n = newSlot (block src) (sender src seg .port) (fields
 
 -- its checks: those of the wire, and 8 where no place is free
 abbrev newChecks : Listener → ℕ → List ℕ → List ℕ → ℕ → Checks
-newChecks l t src seg room =
-    wireChecks (l .home) (isUntimely (l .clock) t) src seg room ++ ((TableFull, not (ltb (freePlace t (l .slots)) 64)) ∷ [])
+newChecks l t src seg out-len =
+    wireChecks (l .local) (isUntimely (l .clock) t) src seg out-len ++ ((TableFull, not (ltb (freePlace t (l .slots)) 64)) ∷ [])
 
 -- what is known of one that is clear
 pub record Admitted (l : Listener) (t : ℕ) : Type 0 where
-  pub started : l .home .started ≡ true
+  pub started : l .local .started ≡ true
   pub place : freePlace t (l .slots) < 64
 
 -- early: Fast Open is on, pending is below the limit, and the cookie is right
@@ -128,34 +128,34 @@ pub request-fresh : (l : Listener) (t : ℕ) (src seg : List ℕ) → l .setting
 unfolding isFresh rightUnder
 request-fresh l t src seg on below r = rw (on, lt-ltb (pendingAt t (l .slots)) (l .settings .limit) below, r)
 
-module _ (l : Listener) (t : ℕ) (src seg : List ℕ) (iss room : ℕ) (syn : kindOf (fieldsOf seg .flags) ≡ Syn)
+module _ (l : Listener) (t : ℕ) (src seg : List ℕ) (iss out-len : ℕ) (syn : kindOf (fieldsOf seg .flags) ≡ Syn)
     (new : known (view l t (sender src seg)) ≡ false) where
-  judged-new : judged l (segment t src seg iss room) ≡ refusal (newChecks l t src seg room)
-  unfolding judged
-  judged-new = rw (syn, new)
+  checked-new : callCheck l (segment t src seg iss out-len) ≡ refusal (newChecks l t src seg out-len)
+  unfolding callCheck
+  checked-new = rw (syn, new)
 
   -- it is clear where the wire checks are and a place is free
-  pub new-clear : refusal (wireChecks (l .home) (isUntimely (l .clock) t) src seg room) ≡ Clear → freePlace t (l .slots) < 64
-      → judged l (segment t src seg iss room) ≡ Clear
-  new-clear e h = judged-new ∙ rw (lt-ltb (freePlace t (l .slots)) 64 h) e
+  pub new-clear : refusal (wireChecks (l .local) (isUntimely (l .clock) t) src seg out-len) ≡ Clear → freePlace t (l .slots) < 64
+      → callCheck l (segment t src seg iss out-len) ≡ Clear
+  new-clear e h = checked-new ∙ rw (lt-ltb (freePlace t (l .slots)) 64 h) e
 
   -- and where it is clear, these hold: 13 and 8 by their places in the order
-  pub clear-new : judged l (segment t src seg iss room) ≡ Clear → Admitted l t
+  pub clear-new : callCheck l (segment t src seg iss out-len) ≡ Clear → Admitted l t
   clear-new e =
-      let n = none-applies order (newChecks l t src seg room) (sym judged-new ∙ e) in
+      let n = none-applies order (newChecks l t src seg out-len) (sym checked-new ∙ e) in
       record {
         started = not-false _ (n .0);
         place = ltb-true _ _ (not-false _ (n .1 .1 .1 .1 .1 .1 .1 .1 .1 .1 .1 .0));
       }
 
   -- what it is answered
-  pub step-new : (early : Bool) → isEarly (view l t (sender src seg)) (block src) seg ≡ early → judged l (segment t src seg iss room) ≡ Clear
-      → step l (segment t src seg iss room)
+  pub step-new : (early : Bool) → isEarly (view l t (sender src seg)) (block src) seg ≡ early → callCheck l (segment t src seg iss out-len) ≡ Clear
+      → step l (segment t src seg iss out-len)
       ≡ record {
         listener = put l t (freePlace t (l .slots)) (slotFor early src seg iss (accepts (l .settings) seg));
         event = newEvent early (accepts (l .settings) seg);
-        written = length (answerTo (view l t (sender src seg)) src (slotFor early src seg iss (accepts (l .settings) seg))
-            (isFresh (view l t (sender src seg)) (block src) seg) room);
+        written = length (synAckTo (view l t (sender src seg)) src (slotFor early src seg iss (accepts (l .settings) seg))
+            (isFresh (view l t (sender src seg)) (block src) seg) out-len);
       }
   unfolding step after
   step-new true e c = rw (c, syn, new, e)

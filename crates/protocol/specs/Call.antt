@@ -11,8 +11,8 @@ use Rattle.segment.specs.declared.header.Kind.{Kind}
 use Rattle.segment.specs.declared.header.Kind.the-variants.{Syn, Rst, Ack, Other}
 use Rattle.endpoint.specs.Address.{Peer}
 use Rattle.protocol.specs.declared.state.Settings.{Settings}
-use Rattle.protocol.specs.declared.answer.Event.{Event}
-use Rattle.protocol.specs.declared.answer.Event.the-variants.{Refused, FastOpen, Regular, Retransmission, Completed, WasReset, Done}
+use Rattle.protocol.specs.declared.outcome.Event.{Event}
+use Rattle.protocol.specs.declared.outcome.Event.the-variants.{Refused, FastOpened, Regular, Retransmission, Completed, WasReset, Done}
 
 -- A call with its arguments, the time first. A segment has its source address, its bytes, our initial number and the output's length; a call by name has an
 -- address and a port, and a resend the output's length too.
@@ -26,11 +26,11 @@ pub data Call : Type 0 where
 
 -- the time that a call carries
 abbrev pub timeOf : Call → ℕ
-timeOf (segment t src seg iss room) = t
+timeOf (segment t src seg iss out-len) = t
 timeOf (settings t g) = t
 timeOf (key t k) = t
 timeOf (abandon t a p) = t
-timeOf (resend t a p room) = t
+timeOf (resend t a p out-len) = t
 timeOf (close t a p) = t
 
 -- the name of a segment's connection
@@ -39,11 +39,11 @@ sender src seg = record { address = src; port = fieldsOf seg .source }
 
 -- the connection that a call is about; settings and keys are about none, and look nothing up
 abbrev pub peerOf : Call → Peer
-peerOf (segment t src seg iss room) = sender src seg
+peerOf (segment t src seg iss out-len) = sender src seg
 peerOf (settings t g) = record { address = []; port = 0 }
 peerOf (key t k) = record { address = []; port = 0 }
 peerOf (abandon t a p) = record { address = a; port = p }
-peerOf (resend t a p room) = record { address = a; port = p }
+peerOf (resend t a p out-len) = record { address = a; port = p }
 peerOf (close t a p) = record { address = a; port = p }
 
 -- What an answer says, in 01's words.
@@ -51,7 +51,7 @@ peerOf (close t a p) = record { address = a; port = p }
 -- the number; 0 is done
 abbrev pub numberOfEvent : Event → ℕ
 numberOfEvent (Refused r) = numberOf r
-numberOfEvent (FastOpen n) = 0
+numberOfEvent (FastOpened n) = 0
 numberOfEvent Regular = 0
 numberOfEvent Retransmission = 0
 numberOfEvent Completed = 0
@@ -71,7 +71,7 @@ wordOf Other = none
 
 abbrev pub kindOfEvent : Event → SegmentKind
 kindOfEvent (Refused r) = none
-kindOfEvent (FastOpen n) = opening
+kindOfEvent (FastOpened n) = opening
 kindOfEvent Regular = opening
 kindOfEvent Retransmission = opening
 kindOfEvent Completed = completion
@@ -80,21 +80,21 @@ kindOfEvent Done = none
 
 -- the verdict of a done opening
 pub data Verdict : Type 0 where
-  early plain repeat unjudged : Verdict
+  early plain repeat noVerdict : Verdict
 
 abbrev pub verdictOf : Event → Verdict
-verdictOf (Refused r) = unjudged
-verdictOf (FastOpen n) = early
+verdictOf (Refused r) = noVerdict
+verdictOf (FastOpened n) = early
 verdictOf Regular = plain
 verdictOf Retransmission = repeat
-verdictOf Completed = unjudged
-verdictOf WasReset = unjudged
-verdictOf Done = unjudged
+verdictOf Completed = noVerdict
+verdictOf WasReset = noVerdict
+verdictOf Done = noVerdict
 
 -- the accepted count
 abbrev pub acceptedOf : Event → ℕ
 acceptedOf (Refused r) = 0
-acceptedOf (FastOpen n) = n
+acceptedOf (FastOpened n) = n
 acceptedOf Regular = 0
 acceptedOf Retransmission = 0
 acceptedOf Completed = 0

@@ -7,8 +7,8 @@ use lib.ListN.{take, drop}
 use Rattle.cipher.specs.Cipher.{cipher}
 use Rattle.segment.specs.Header.{optionArea}
 use Rattle.segment.specs.Options.{optionsOf}
-use Rattle.segment.specs.declared.options.FastOpen.{FastOpen}
-use Rattle.segment.specs.declared.options.FastOpen.the-variants.{Absent, Request, Cookie}
+use Rattle.segment.specs.declared.options.FastOpenOption.{FastOpenOption}
+use Rattle.segment.specs.declared.options.FastOpenOption.the-variants.{Absent, Request, Cookie}
 use Rattle.lists.specs.Bytes.{sameBytes}
 use Rattle.protocol.specs.declared.state.Keys.{Keys}
 
@@ -22,7 +22,7 @@ pub data Carried : Type 0 where
   cookie : List ℕ → Carried
 
 -- the option that was found in an option area
-abbrev pub found : FastOpen → List ℕ → Carried
+abbrev pub found : FastOpenOption → List ℕ → Carried
 found Absent area = nothing
 found Request area = request
 found (Cookie at len) area = cookie (take len (drop at area))

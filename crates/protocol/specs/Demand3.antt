@@ -6,31 +6,31 @@ use mathlib.Core.Path.{_≡_}
 use mathlib.Core.List.{List, [], _∷_}
 use Rattle.protocol.specs.Call.{Call, segment, settings, key, abandon, resend, close, numberOfEvent, verdictOf, acceptedOf, acceptedPart}
 use Rattle.protocol.specs.Step.{startOf, step, pendingNumber}
-use Rattle.protocol.specs.Journal.{Journal, begun, feed, says, Said, pendingOf}
+use Rattle.protocol.specs.Journal.{Journal, freshJournal, feed, journalDecision, Decision, pendingOf}
 use Rattle.protocol.specs.declared.state.Listener.{Listener}
-use Rattle.protocol.specs.declared.answer.Event.{Event}
+use Rattle.protocol.specs.declared.outcome.Event.{Event}
 
 -- the bytes of a call that is a segment
 abbrev pub segmentOf : Call → List ℕ
-segmentOf (segment t src seg iss room) = seg
+segmentOf (segment t src seg iss out-len) = seg
 segmentOf (settings t g) = []
 segmentOf (key t k) = []
 segmentOf (abandon t a p) = []
-segmentOf (resend t a p room) = []
+segmentOf (resend t a p out-len) = []
 segmentOf (close t a p) = []
 
 -- what the listener's answer to a call says
-abbrev pub answerSays : Call → Event → Said
-answerSays c e = record { verdict = verdictOf e; accepted = acceptedOf e; part = acceptedPart (segmentOf c) e }
+abbrev pub listenerDecision : Call → Event → Decision
+listenerDecision c e = record { verdict = verdictOf e; accepted = acceptedOf e; part = acceptedPart (segmentOf c) e }
 
 -- The listener after a list of calls, each on the listener that the last one left, and its answers.
 unfoldable pub listenerAfter : Listener → List Call → Listener
 listenerAfter l [] = l
 listenerAfter l (c ∷ cs) = listenerAfter (step l c .listener) cs
 
-unfoldable pub answers : Listener → List Call → List Said
-answers l [] = []
-answers l (c ∷ cs) = answerSays c (step l c .event) ∷ answers (step l c .listener) cs
+unfoldable pub listenerDecisions : Listener → List Call → List Decision
+listenerDecisions l [] = []
+listenerDecisions l (c ∷ cs) = listenerDecision c (step l c .event) ∷ listenerDecisions (step l c .listener) cs
 
 -- the calls with the numbers that they were answered: all that the journal is fed
 pub record Fed : Type 0 where
@@ -46,13 +46,13 @@ unfoldable pub journalAfter : Journal → List Fed → Journal
 journalAfter j [] = j
 journalAfter j (f ∷ fs) = journalAfter (feed j (f .call) (f .number)) fs
 
-unfoldable pub sayings : Journal → List Fed → List Said
-sayings j [] = []
-sayings j (f ∷ fs) = says j (f .call) (f .number) ∷ sayings (feed j (f .call) (f .number)) fs
+unfoldable pub journalDecisions : Journal → List Fed → List Decision
+journalDecisions j [] = []
+journalDecisions j (f ∷ fs) = journalDecision j (f .call) (f .number) ∷ journalDecisions (feed j (f .call) (f .number)) fs
 
 -- For a start with these arguments and a list of calls
 pub record Demand3 (own : List ℕ) (port : ℕ) (k : List ℕ) (calls : List Call) : Type 0 where
   pub pending : pendingNumber (listenerAfter (startOf own port k .listener) calls)
-      ≡ pendingOf (journalAfter (begun own port k) (numbered (startOf own port k .listener) calls))
-  pub verdicts : answers (startOf own port k .listener) calls
-      ≡ sayings (begun own port k) (numbered (startOf own port k .listener) calls)
+      ≡ pendingOf (journalAfter (freshJournal own port k) (numbered (startOf own port k .listener) calls))
+  pub verdicts : listenerDecisions (startOf own port k .listener) calls
+      ≡ journalDecisions (freshJournal own port k) (numbered (startOf own port k .listener) calls)

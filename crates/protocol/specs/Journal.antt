@@ -13,7 +13,7 @@ use Rattle.segment.specs.declared.header.Kind.the-variants.{Syn, Rst, Ack, Othe
 use Rattle.lists.specs.Lists.{tally, amend}
 use Rattle.endpoint.specs.Address.{Peer, samePeer, block}
 use Rattle.protocol.specs.Cookie.{Carried, carriedBy, rightUnder}
-use Rattle.protocol.specs.Call.{Call, segment, settings, key, abandon, resend, close, sender, timeOf, Verdict, early, plain, repeat, unjudged}
+use Rattle.protocol.specs.Call.{Call, segment, settings, key, abandon, resend, close, sender, timeOf, Verdict, early, plain, repeat, noVerdict}
 use Rattle.protocol.specs.declared.state.Settings.{Settings}
 
 -- what is noted of a connection
@@ -38,11 +38,11 @@ pub record Journal : Type 0 where
   pub entries : List Entry
 
 -- At the start: as in the fresh state.
-abbrev pub begun : List ℕ → ℕ → List ℕ → Journal
-begun own port k =
+abbrev pub freshJournal : List ℕ → ℕ → List ℕ → Journal
+freshJournal own port k =
     record {
       time = 0;
-      settings = record { on = false; limit = 0; room = 0; hold = 0; mss = 536 };
+      settings = record { on = false; limit = 0; «early_room» = 0; hold = 0; mss = 536 };
       present = k;
       previous = noKey;
       entries = [];
@@ -85,8 +85,8 @@ kept t e = keptMark t (e .who) (e .mark)
 abbrev pub only : Peer → (Entry → List Entry) → Entry → List Entry
 only p rule e = cond (named p e) (rule e) (e ∷ [])
 
-abbrev pub struck : Entry → List Entry
-struck e = []
+abbrev pub removed : Entry → List Entry
+removed e = []
 
 abbrev pub completed : Entry → List Entry
 completed e = record { who = e .who; mark = markOpen } ∷ []
@@ -144,12 +144,12 @@ segmentNoted j src seg Rst = amended j (sender src seg) (wasReset (j .time + set
 segmentNoted j src seg Other = j
 
 unfoldable pub noted : Journal → Call → Journal
-noted j (segment t src seg iss room) = segmentNoted j src seg (kindOf (fieldsOf seg .flags))
+noted j (segment t src seg iss out-len) = segmentNoted j src seg (kindOf (fieldsOf seg .flags))
 noted j (settings t g) = record { time = j .time; settings = g; present = j .present; previous = j .previous; entries = j .entries }
 noted j (key t k) = record { time = j .time; settings = j .settings; present = k; previous = aKey (j .present); entries = j .entries }
-noted j (abandon t a p) = amended j (record { address = a; port = p }) struck
-noted j (resend t a p room) = j
-noted j (close t a p) = amended j (record { address = a; port = p }) struck
+noted j (abandon t a p) = amended j (record { address = a; port = p }) removed
+noted j (resend t a p out-len) = j
+noted j (close t a p) = amended j (record { address = a; port = p }) removed
 
 -- a call and the number that it was answered: a refused one leaves the journal as it is
 unfoldable pub feed : Journal → Call → ℕ → Journal
@@ -157,39 +157,39 @@ feed j c zero = noted (atTime (timeOf c) j) c
 feed j c (suc n) = j
 
 -- What it says of a call's answer: the verdict, the accepted count and the accepted part, that many bytes from the payload's start.
-pub record Said : Type 0 where
+pub record Decision : Type 0 where
   pub verdict : Verdict
   pub accepted : ℕ
   pub part : List ℕ
 
-abbrev pub saysNothing : Said
-saysNothing = record { verdict = unjudged; accepted = 0; part = [] }
+abbrev pub noDecision : Decision
+noDecision = record { verdict = noVerdict; accepted = 0; part = [] }
 
 -- only an early one accepts bytes, up to the early room
-abbrev pub saysNew : Bool → Journal → List ℕ → Said
-saysNew true j seg =
-    let n = min (length (payloadOf seg)) (settingsOf j .room) in
+abbrev pub newDecision : Bool → Journal → List ℕ → Decision
+newDecision true j seg =
+    let n = min (length (payloadOf seg)) (settingsOf j .«early_room») in
     record { verdict = early; accepted = n; part = take n (payloadOf seg) }
-saysNew false j seg = record { verdict = plain; accepted = 0; part = [] }
+newDecision false j seg = record { verdict = plain; accepted = 0; part = [] }
 
-abbrev pub saysOpening : Bool → Journal → List ℕ → List ℕ → Said
-saysOpening true j src seg = record { verdict = repeat; accepted = 0; part = [] }
-saysOpening false j src seg = saysNew (opensEarly j src seg) j seg
+abbrev pub openingDecision : Bool → Journal → List ℕ → List ℕ → Decision
+openingDecision true j src seg = record { verdict = repeat; accepted = 0; part = [] }
+openingDecision false j src seg = newDecision (opensEarly j src seg) j seg
 
-unfoldable pub saysSegment : Journal → List ℕ → List ℕ → Kind → Said
-saysSegment j src seg Syn = saysOpening (has (sender src seg) (j .entries)) j src seg
-saysSegment j src seg Ack = saysNothing
-saysSegment j src seg Rst = saysNothing
-saysSegment j src seg Other = saysNothing
+unfoldable pub segmentDecision : Journal → List ℕ → List ℕ → Kind → Decision
+segmentDecision j src seg Syn = openingDecision (has (sender src seg) (j .entries)) j src seg
+segmentDecision j src seg Ack = noDecision
+segmentDecision j src seg Rst = noDecision
+segmentDecision j src seg Other = noDecision
 
-unfoldable pub saysDone : Journal → Call → Said
-saysDone j (segment t src seg iss room) = saysSegment j src seg (kindOf (fieldsOf seg .flags))
-saysDone j (settings t g) = saysNothing
-saysDone j (key t k) = saysNothing
-saysDone j (abandon t a p) = saysNothing
-saysDone j (resend t a p room) = saysNothing
-saysDone j (close t a p) = saysNothing
+unfoldable pub doneDecision : Journal → Call → Decision
+doneDecision j (segment t src seg iss out-len) = segmentDecision j src seg (kindOf (fieldsOf seg .flags))
+doneDecision j (settings t g) = noDecision
+doneDecision j (key t k) = noDecision
+doneDecision j (abandon t a p) = noDecision
+doneDecision j (resend t a p out-len) = noDecision
+doneDecision j (close t a p) = noDecision
 
-unfoldable pub says : Journal → Call → ℕ → Said
-says j c zero = saysDone (atTime (timeOf c) j) c
-says j c (suc n) = saysNothing
+unfoldable pub journalDecision : Journal → Call → ℕ → Decision
+journalDecision j c zero = doneDecision (atTime (timeOf c) j) c
+journalDecision j c (suc n) = noDecision

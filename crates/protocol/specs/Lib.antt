@@ -8,5 +8,5 @@ pub mod Refusals
 pub mod Step
 pub mod Journal
 pub mod Demand3
-pub mod Twins
+pub mod TwoOpenings
 pub mod Sixteen

@@ -19,7 +19,7 @@ use Rattle.protocol.specs.Table.{isWaiting, isEstablished, acceptedWith}
 use Rattle.protocol.specs.Call.{Call, segment, settings, key, abandon, resend, close}
 use Rattle.protocol.specs.View.{known, ownAddress, viewOf}
 use Rattle.protocol.specs.declared.state.Settings.{Settings}
-use Rattle.protocol.specs.declared.state.Home.{Home}
+use Rattle.protocol.specs.declared.state.LocalEndpoint.{LocalEndpoint}
 use Rattle.protocol.specs.declared.state.View.{View}
 use Rattle.protocol.specs.declared.state.Listener.{Listener}
 use Rattle.protocol.specs.declared.slots.Status.{Status}
@@ -29,7 +29,7 @@ use Rattle.protocol.specs.declared.slots.Slot.{Slot}
 
 -- not 12: limit 0 to 64, early room 0 to 1,460, hold 0 to 65,535, MSS 536 to 1,460
 unfoldable pub inRange : Settings → Bool
-inRange g = leb (g .limit) 64 && (leb (g .room) 1460 && (leb (g .hold) 65535 && (leb 536 (g .mss) && leb (g .mss) 1460)))
+inRange g = leb (g .limit) 64 && (leb (g .«early_room») 1460 && (leb (g .hold) 65535 && (leb 536 (g .mss) && leb (g .mss) 1460)))
 
 -- not 12: a key has 16 bytes
 abbrev pub isKey : List ℕ → Bool
@@ -54,8 +54,8 @@ resets s h = eqb (h .seq) (expected s)
 -- Checks that calls share
 
 -- the longest answer has 36 bytes
-abbrev pub roomy : ℕ → Checks
-roomy room = (Output, ltb room 36) ∷ []
+abbrev pub outputChecks : ℕ → Checks
+outputChecks out-len = (Output, ltb out-len 36) ∷ []
 
 -- a connection that is there and not complete
 abbrev pub waiting : Slot → Checks
@@ -73,25 +73,25 @@ kindChecks v h Rst = sequenceChecks (v .slot) (resets (v .slot) h)
 kindChecks v h Other = (Flags, true) ∷ []
 
 -- what is asked of a segment before its kind is looked at
-abbrev pub wireChecks : Home → Bool → List ℕ → List ℕ → ℕ → Checks
-wireChecks h untimely src seg room =
-    timely (h .started) untimely ++ addressed (h .family) src ++ roomy room
+abbrev pub wireChecks : LocalEndpoint → Bool → List ℕ → List ℕ → ℕ → Checks
+wireChecks h untimely src seg out-len =
+    timely (h .started) untimely ++ addressed (h .family) src ++ outputChecks out-len
     ++ ((Format, malformed seg)
     ∷ (Checksum, not (checksumRight src (ownAddress h) seg))
     ∷ (Port, not (eqb (fieldsOf seg .dest) (h .port))) ∷ [])
 
 -- the checks of a call
 abbrev pub checks : View → Call → Checks
-checks v (segment t src seg iss room) = wireChecks (v .home) (v .untimely) src seg room ++ kindChecks v (fieldsOf seg) (kindOf (fieldsOf seg .flags))
-checks v (settings t g) = timely (v .home .started) (v .untimely) ++ ((Range, not (inRange g)) ∷ [])
-checks v (key t k) = timely (v .home .started) (v .untimely) ++ ((Range, not (isKey k)) ∷ [])
-checks v (abandon t a p) = timely (v .home .started) (v .untimely) ++ addressed (v .home .family) a ++ waiting (v .slot)
-checks v (resend t a p room) = timely (v .home .started) (v .untimely) ++ addressed (v .home .family) a ++ roomy room ++ waiting (v .slot)
-checks v (close t a p) = timely (v .home .started) (v .untimely) ++ addressed (v .home .family) a ++ ((NoConnection, not (isEstablished (v .slot .status))) ∷ [])
+checks v (segment t src seg iss out-len) = wireChecks (v .local) (v .untimely) src seg out-len ++ kindChecks v (fieldsOf seg) (kindOf (fieldsOf seg .flags))
+checks v (settings t g) = timely (v .local .started) (v .untimely) ++ ((Range, not (inRange g)) ∷ [])
+checks v (key t k) = timely (v .local .started) (v .untimely) ++ ((Range, not (isKey k)) ∷ [])
+checks v (abandon t a p) = timely (v .local .started) (v .untimely) ++ addressed (v .local .family) a ++ waiting (v .slot)
+checks v (resend t a p out-len) = timely (v .local .started) (v .untimely) ++ addressed (v .local .family) a ++ outputChecks out-len ++ waiting (v .slot)
+checks v (close t a p) = timely (v .local .started) (v .untimely) ++ addressed (v .local .family) a ++ ((NoConnection, not (isEstablished (v .slot .status))) ∷ [])
 
 -- what the checks of a call come to: the first refusal, in 01's order, that applies
-unfoldable pub judged : Listener → Call → Check
-judged l c = refusal (checks (viewOf l c) c)
+unfoldable pub callCheck : Listener → Call → Check
+callCheck l c = refusal (checks (viewOf l c) c)
 
 -- For the code and its laws alone: abandon and close in one. Close is for an established connection, abandon for one that is not complete.
 abbrev pub isReleasable : Bool → Status → Bool

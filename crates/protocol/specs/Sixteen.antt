@@ -9,28 +9,28 @@ use Rattle.segment.specs.Header.{fieldsOf, kindOf}
 use Rattle.segment.specs.Refusal.{refusal}
 use Rattle.segment.specs.Sequence.{nextAfter}
 use Rattle.segment.specs.Options.{nothing, readOptions}
-use Rattle.segment.specs.Write.{answerFields, answerBytes}
+use Rattle.segment.specs.Write.{synAckFields, synAckBytes}
 use Rattle.segment.specs.Found.{onlyFastOpen, FoundCookie, EarlierStands}
-use Rattle.segment.specs.declared.options.FastOpen.the-variants.{Request}
+use Rattle.segment.specs.declared.options.FastOpenOption.the-variants.{Request}
 use Rattle.segment.specs.declared.refusal.Refusal.the-variants.{Sequence}
 use Rattle.segment.specs.declared.refusal.Check.the-variants.{Clear, Refused}
 use Rattle.segment.specs.declared.header.Header.{Header}
 use Rattle.segment.specs.declared.header.Kind.the-variants.{Syn, Ack}
-use Rattle.segment.specs.declared.write.Answer.{Answer}
+use Rattle.segment.specs.declared.write.SynAck.{SynAck}
 use Rattle.endpoint.specs.Address.{block}
 use Rattle.protocol.specs.Cookie.{carriedBy, right}
 use Rattle.protocol.specs.Table.{isWaiting, pendingAt}
 use Rattle.protocol.specs.Call.{segment, sender}
 use Rattle.protocol.specs.View.{known, view}
-use Rattle.protocol.specs.Refusals.{expected, kindChecks, judged}
+use Rattle.protocol.specs.Refusals.{expected, kindChecks, callCheck}
 use Rattle.protocol.specs.Step.{accepts, step, pendingNumber}
 use Rattle.protocol.specs.declared.state.View.{View}
 use Rattle.protocol.specs.declared.state.Listener.{Listener}
-use Rattle.protocol.specs.declared.answer.Event.the-variants as events
+use Rattle.protocol.specs.declared.outcome.Event.the-variants as events
 
 -- a new opening that is not refused, on a listener of 64 slots
-pub record NewOpening (l : Listener) (t : ℕ) (src seg : List ℕ) (iss room : ℕ) : Type 0 where
-  pub clear : judged l (segment t src seg iss room) ≡ Clear
+pub record NewOpening (l : Listener) (t : ℕ) (src seg : List ℕ) (iss out-len : ℕ) : Type 0 where
+  pub clear : callCheck l (segment t src seg iss out-len) ≡ Clear
   pub syn : kindOf (fieldsOf seg .flags) ≡ Syn
   pub new : known (view l t (sender src seg)) ≡ false
   pub slots : length (l .slots) ≡ 64
@@ -47,8 +47,8 @@ pub record CompletesFive (v : View) (h : Header) : Type 0 where
 
 pub record Sixteen : Type 0 where
   -- the acknowledgement of an answer to a number with so many bytes accepted
-  pub row1 : (a : Answer) → a .irs ≡ 4294967295 → a .accepted ≡ 0 → answerFields a .ack ≡ 0
-  pub row2 : (a : Answer) → a .irs ≡ 4294967290 → a .accepted ≡ 10 → answerFields a .ack ≡ 5
+  pub row1 : (a : SynAck) → a .irs ≡ 4294967295 → a .accepted ≡ 0 → synAckFields a .ack ≡ 0
+  pub row2 : (a : SynAck) → a .irs ≡ 4294967290 → a .accepted ≡ 10 → synAckFields a .ack ≡ 5
   -- a completion where 5 is expected: admitted, or refused 10
   pub row3 : (v : View) (h : Header) → CompletesFive v h → h .seq ≡ 65539 → refusal (kindChecks v h Ack) ≡ Clear
   pub row4 : (v : View) (h : Header) → CompletesFive v h → h .seq ≡ 65540 → refusal (kindChecks v h Ack) ≡ Refused Sequence
@@ -64,22 +64,22 @@ pub record Sixteen : Type 0 where
   pub row11 : (rest : List ℕ) → (readOptions (34 ∷ 0 ∷ rest) ≡ nothing) × EarlierStands (34 ∷ 0 ∷ rest)
   pub row12 : (readOptions (34 ∷ []) ≡ nothing) × EarlierStands (34 ∷ [])
   -- limit 0: plain
-  pub row13 : (l : Listener) (t : ℕ) (src seg : List ℕ) (iss room : ℕ) → NewOpening l t src seg iss room
+  pub row13 : (l : Listener) (t : ℕ) (src seg : List ℕ) (iss out-len : ℕ) → NewOpening l t src seg iss out-len
       → l .settings .limit ≡ 0
-      → step l (segment t src seg iss room) .event ≡ events.Regular
+      → step l (segment t src seg iss out-len) .event ≡ events.Regular
   -- pending 1, limit 2, right cookie: early; pending 2
-  pub row14 : (l : Listener) (t : ℕ) (src seg : List ℕ) (iss room : ℕ) → NewOpening l t src seg iss room
+  pub row14 : (l : Listener) (t : ℕ) (src seg : List ℕ) (iss out-len : ℕ) → NewOpening l t src seg iss out-len
       → l .settings .on ≡ true → l .settings .limit ≡ 2 → pendingAt t (l .slots) ≡ 1 → HasRight l src seg
-      → (step l (segment t src seg iss room) .event ≡ events.FastOpen (accepts (l .settings) seg))
-      × (pendingNumber (step l (segment t src seg iss room) .listener) ≡ 2)
+      → (step l (segment t src seg iss out-len) .event ≡ events.FastOpened (accepts (l .settings) seg))
+      × (pendingNumber (step l (segment t src seg iss out-len) .listener) ≡ 2)
   -- pending 2, limit 2, right cookie: plain, 24 bytes
-  pub row15 : (l : Listener) (t : ℕ) (src seg : List ℕ) (iss room : ℕ) → NewOpening l t src seg iss room
+  pub row15 : (l : Listener) (t : ℕ) (src seg : List ℕ) (iss out-len : ℕ) → NewOpening l t src seg iss out-len
       → l .settings .on ≡ true → l .settings .limit ≡ 2 → pendingAt t (l .slots) ≡ 2 → HasRight l src seg
-      → (step l (segment t src seg iss room) .event ≡ events.Regular)
-      × (step l (segment t src seg iss room) .written ≡ 24)
+      → (step l (segment t src seg iss out-len) .event ≡ events.Regular)
+      × (step l (segment t src seg iss out-len) .written ≡ 24)
   -- the answer's bytes, in any output that has room for them
-  pub row16 : (cookie : List ℕ) (room : ℕ) → 24 ≤ room
-      → answerBytes (192 ∷ 0 ∷ 2 ∷ 2 ∷ []) (192 ∷ 0 ∷ 2 ∷ 1 ∷ [])
-      (record { source = 443; dest = 40000; iss = 1000; irs = 4294967295; accepted = 0; mss = 1460; fresh = false }) cookie room
+  pub row16 : (cookie : List ℕ) (out-len : ℕ) → 24 ≤ out-len
+      → synAckBytes (192 ∷ 0 ∷ 2 ∷ 2 ∷ []) (192 ∷ 0 ∷ 2 ∷ 1 ∷ [])
+      (record { source = 443; dest = 40000; iss = 1000; irs = 4294967295; accepted = 0; mss = 1460; fresh = false }) cookie out-len
       ≡ 0x01 ∷ 0xBB ∷ 0x9C ∷ 0x40 ∷ 0x00 ∷ 0x00 ∷ 0x03 ∷ 0xE8 ∷ 0x00 ∷ 0x00 ∷ 0x00 ∷ 0x00 ∷ 0x60 ∷ 0x12 ∷ 0xFF ∷ 0xFF
       ∷ 0x72 ∷ 0x2F ∷ 0x00 ∷ 0x00 ∷ 0x02 ∷ 0x04 ∷ 0x05 ∷ 0xB4 ∷ []

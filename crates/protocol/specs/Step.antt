@@ -7,44 +7,44 @@ use lib.ListN.{length, replicate, set}
 use Rattle.cipher.specs.KeyExpansion.{keyExpansion}
 use Rattle.segment.specs.Refusal.{Checks, refusal}
 use Rattle.segment.specs.Header.{fieldsOf, payloadOf, kindOf}
-use Rattle.segment.specs.Write.{answerBytes}
+use Rattle.segment.specs.Write.{synAckBytes}
 use Rattle.segment.specs.declared.refusal.Refusal.the-variants.{Address, Range}
 use Rattle.segment.specs.declared.refusal.Check.{Check}
 use Rattle.segment.specs.declared.refusal.Check.the-variants.{Clear, Refused}
 use Rattle.segment.specs.declared.header.Header.{Header}
 use Rattle.segment.specs.declared.header.Kind.{Kind}
 use Rattle.segment.specs.declared.header.Kind.the-variants.{Syn, Rst, Ack, Other}
-use Rattle.segment.specs.declared.write.Answer.{Answer}
+use Rattle.segment.specs.declared.write.SynAck.{SynAck}
 use Rattle.endpoint.specs.Address.{Peer, isSize, familyOf, block}
 use Rattle.endpoint.specs.declared.address.Family.the-variants.{V4}
 use Rattle.protocol.specs.Cookie.{carriedBy, counts, cookieUnder, rightUnder, right}
 use Rattle.protocol.specs.Table.{acceptedWith, afterReset, freeSlot, newSlot, withStatus, pendingAt}
 use Rattle.protocol.specs.Call.{Call, segment, settings, key, abandon, resend, close, sender}
 use Rattle.protocol.specs.View.{known, ownAddress, scanFor, view, viewOf}
-use Rattle.protocol.specs.Refusals.{isKey, judged}
-use Rattle.protocol.specs.declared.slots.Status.the-variants.{Free, SynReceived, FastOpen, Established}
+use Rattle.protocol.specs.Refusals.{isKey, callCheck}
+use Rattle.protocol.specs.declared.slots.Status.the-variants.{Free, SynReceived, SynReceivedEarly, Established}
 use Rattle.protocol.specs.declared.slots.Slot.{Slot}
 use Rattle.protocol.specs.declared.slots.Scan.{Scan}
 use Rattle.protocol.specs.declared.state.Settings.{Settings}
 use Rattle.protocol.specs.declared.state.InForce.{InForce}
 use Rattle.protocol.specs.declared.state.Keys.{Keys}
-use Rattle.protocol.specs.declared.state.Home.{Home}
+use Rattle.protocol.specs.declared.state.LocalEndpoint.{LocalEndpoint}
 use Rattle.protocol.specs.declared.state.View.{View}
 use Rattle.protocol.specs.declared.state.Listener.{Listener}
-use Rattle.protocol.specs.declared.answer.Event.{Event}
-use Rattle.protocol.specs.declared.answer.Event.the-variants as events
-use Rattle.protocol.specs.declared.answer.Outcome.{Outcome}
-use Rattle.protocol.specs.declared.answer.Started.{Started}
+use Rattle.protocol.specs.declared.outcome.Event.{Event}
+use Rattle.protocol.specs.declared.outcome.Event.the-variants as events
+use Rattle.protocol.specs.declared.outcome.Outcome.{Outcome}
+use Rattle.protocol.specs.declared.outcome.Started.{Started}
 
 -- The start
 
 -- "Fresh state": Fast Open off, limit, early room and hold 0, own MSS 536
 abbrev pub freshSettings : InForce
-freshSettings = record { on = false; limit = 0; room = 0; hold = 0; mss = 536 }
+freshSettings = record { on = false; limit = 0; «early_room» = 0; hold = 0; mss = 536 }
 
 -- a listener with no connection, at time 0
-abbrev pub blank : Home → Keys → Listener
-blank h k = record { slots = replicate 64 freeSlot; keys = k; home = h; settings = freshSettings; clock = 0 }
+abbrev pub blank : LocalEndpoint → Keys → Listener
+blank h k = record { slots = replicate 64 freeSlot; keys = k; local = h; settings = freshSettings; clock = 0 }
 
 -- one that was never started: every call on it answers 13
 abbrev pub neverStarted : Listener
@@ -84,10 +84,10 @@ isFresh v b seg = cookiesRun v && (counts (carriedBy seg) && not (rightUnder (v 
 
 -- the accepted bytes of an early one: the smaller of payload and early room
 abbrev pub accepts : InForce → List ℕ → ℕ
-accepts g seg = min (length (payloadOf seg)) (g .room)
+accepts g seg = min (length (payloadOf seg)) (g .«early_room»)
 
 abbrev pub newEvent : Bool → ℕ → Event
-newEvent true n = events.FastOpen n
+newEvent true n = events.FastOpened n
 newEvent false n = events.Regular
 
 abbrev pub openingEvent : Bool → View → List ℕ → List ℕ → Event
@@ -103,11 +103,11 @@ segmentEvent v b seg Rst = events.WasReset
 segmentEvent v b seg Other = events.Done
 
 abbrev pub doneEvent : View → Call → Event
-doneEvent v (segment t src seg iss room) = segmentEvent v (block src) seg (kindOf (fieldsOf seg .flags))
+doneEvent v (segment t src seg iss out-len) = segmentEvent v (block src) seg (kindOf (fieldsOf seg .flags))
 doneEvent v (settings t g) = events.Done
 doneEvent v (key t k) = events.Done
 doneEvent v (abandon t a p) = events.Done
-doneEvent v (resend t a p room) = events.Done
+doneEvent v (resend t a p out-len) = events.Done
 doneEvent v (close t a p) = events.Done
 
 -- when the hold of a reset at a time ends
@@ -116,7 +116,7 @@ heldUntil v t = t + v .settings .hold
 
 -- the connection's slot after a done segment, where a hold would last until an end
 abbrev pub slotAfter : View → ℕ → List ℕ → Header → ℕ → Event → Slot
-slotAfter v end b h iss (events.FastOpen n) = newSlot b (h .source) (h .seq) iss (FastOpen n)
+slotAfter v end b h iss (events.FastOpened n) = newSlot b (h .source) (h .seq) iss (SynReceivedEarly n)
 slotAfter v end b h iss events.Regular = newSlot b (h .source) (h .seq) iss SynReceived
 slotAfter v end b h iss events.Retransmission = v .slot
 slotAfter v end b h iss events.Completed = withStatus (v .slot) Established
@@ -127,28 +127,28 @@ slotAfter v end b h iss (events.Refused r) = v .slot
 -- What is written
 
 -- "Answer", from a slot, with the MSS now set
-abbrev pub answerFrom : Home → ℕ → Slot → Bool → Answer
-answerFrom h mss s fresh =
+abbrev pub synAckFrom : LocalEndpoint → ℕ → Slot → Bool → SynAck
+synAckFrom h mss s fresh =
     record { source = h .port; dest = s .port; iss = s .iss; irs = s .irs; accepted = acceptedWith (s .status); mss = mss; fresh = fresh }
 
 -- to an address, in an output with so much room; a fresh cookie is the one under the present key
-abbrev pub answerTo : View → List ℕ → Slot → Bool → ℕ → List ℕ
-answerTo v a s fresh room =
-    answerBytes (ownAddress (v .home)) a (answerFrom (v .home) (v .settings .mss) s fresh) (cookieUnder (v .keys .present) (block a)) room
+abbrev pub synAckTo : View → List ℕ → Slot → Bool → ℕ → List ℕ
+synAckTo v a s fresh out-len =
+    synAckBytes (ownAddress (v .local)) a (synAckFrom (v .local) (v .settings .mss) s fresh) (cookieUnder (v .keys .present) (block a)) out-len
 
 -- openings are answered
-abbrev pub isAnswered : Event → Bool
-isAnswered (events.FastOpen n) = true
-isAnswered events.Regular = true
-isAnswered events.Retransmission = true
-isAnswered events.Completed = false
-isAnswered events.WasReset = false
-isAnswered events.Done = false
-isAnswered (events.Refused r) = false
+abbrev pub writesSynAck : Event → Bool
+writesSynAck (events.FastOpened n) = true
+writesSynAck events.Regular = true
+writesSynAck events.Retransmission = true
+writesSynAck events.Completed = false
+writesSynAck events.WasReset = false
+writesSynAck events.Done = false
+writesSynAck (events.Refused r) = false
 
 -- a new one's answer may have a fresh cookie, a repeat's has none
 abbrev pub freshWith : View → List ℕ → List ℕ → Event → Bool
-freshWith v b seg (events.FastOpen n) = isFresh v b seg
+freshWith v b seg (events.FastOpened n) = isFresh v b seg
 freshWith v b seg events.Regular = isFresh v b seg
 freshWith v b seg events.Retransmission = false
 freshWith v b seg events.Completed = false
@@ -157,22 +157,22 @@ freshWith v b seg events.Done = false
 freshWith v b seg (events.Refused r) = false
 
 abbrev pub segmentOutput : View → ℕ → List ℕ → List ℕ → ℕ → ℕ → Event → List ℕ
-segmentOutput v t src seg iss room e =
-    cond (isAnswered e) (answerTo v src (slotAfter v (heldUntil v t) (block src) (fieldsOf seg) iss e) (freshWith v (block src) seg e) room) []
+segmentOutput v t src seg iss out-len e =
+    cond (writesSynAck e) (synAckTo v src (slotAfter v (heldUntil v t) (block src) (fieldsOf seg) iss e) (freshWith v (block src) seg e) out-len) []
 
 abbrev pub doneOutput : View → Call → List ℕ
-doneOutput v (segment t src seg iss room) = segmentOutput v t src seg iss room (doneEvent v (segment t src seg iss room))
+doneOutput v (segment t src seg iss out-len) = segmentOutput v t src seg iss out-len (doneEvent v (segment t src seg iss out-len))
 doneOutput v (settings t g) = []
 doneOutput v (key t k) = []
 doneOutput v (abandon t a p) = []
-doneOutput v (resend t a p room) = answerTo v a (v .slot) false room
+doneOutput v (resend t a p out-len) = synAckTo v a (v .slot) false out-len
 doneOutput v (close t a p) = []
 
 -- The listener after a done call
 
 -- at a time, with other slots
 abbrev pub moved : Listener → ℕ → List Slot → Listener
-moved l t slots = record { slots = slots; keys = l .keys; home = l .home; settings = l .settings; clock = t }
+moved l t slots = record { slots = slots; keys = l .keys; local = l .local; settings = l .settings; clock = t }
 
 -- one slot changes
 abbrev pub put : Listener → ℕ → ℕ → Slot → Listener
@@ -180,7 +180,7 @@ put l t i s = moved l t (set (l .slots) i s)
 
 -- a new connection takes the lowest free place, a known one keeps its own (a repeat's slot stays as it is)
 abbrev pub segmentAfter : Listener → ℕ → Scan → Event → Slot → Listener
-segmentAfter l t found (events.FastOpen n) s = put l t (found .free) s
+segmentAfter l t found (events.FastOpened n) s = put l t (found .free) s
 segmentAfter l t found events.Regular s = put l t (found .free) s
 segmentAfter l t found events.Retransmission s = put l t (found .place) s
 segmentAfter l t found events.Completed s = put l t (found .place) s
@@ -194,22 +194,22 @@ freed l t p = put l t (scanFor l t p .place) (withStatus (view l t p .slot) Free
 
 -- settings as they are kept
 abbrev pub inForce : Settings → InForce
-inForce g = record { on = g .on; limit = g .limit; room = g .room; hold = g .hold; mss = g .mss }
+inForce g = record { on = g .on; limit = g .limit; «early_room» = g .«early_room»; hold = g .hold; mss = g .mss }
 
 -- the present key becomes the previous one
 abbrev pub withKey : Keys → List ℕ → Keys
 withKey k new = record { present = keyExpansion new; previous = k .present; rotated = true }
 
 unfoldable pub after : Listener → Call → Listener
-after l (segment t src seg iss room) =
+after l (segment t src seg iss out-len) =
     let p = sender src seg in
     let v = view l t p in
-    let e = doneEvent v (segment t src seg iss room) in
+    let e = doneEvent v (segment t src seg iss out-len) in
     segmentAfter l t (scanFor l t p) e (slotAfter v (heldUntil v t) (block src) (fieldsOf seg) iss e)
-after l (settings t g) = record { slots = l .slots; keys = l .keys; home = l .home; settings = inForce g; clock = t }
-after l (key t k) = record { slots = l .slots; keys = withKey (l .keys) k; home = l .home; settings = l .settings; clock = t }
+after l (settings t g) = record { slots = l .slots; keys = l .keys; local = l .local; settings = inForce g; clock = t }
+after l (key t k) = record { slots = l .slots; keys = withKey (l .keys) k; local = l .local; settings = l .settings; clock = t }
 after l (abandon t a p) = freed l t (record { address = a; port = p })
-after l (resend t a p room) = moved l t (l .slots)
+after l (resend t a p out-len) = moved l t (l .slots)
 after l (close t a p) = freed l t (record { address = a; port = p })
 
 -- A call: refused, it changes nothing
@@ -219,7 +219,7 @@ outcomeOf l c Clear = record { listener = after l c; event = doneEvent (viewOf l
 outcomeOf l c (Refused r) = record { listener = l; event = events.Refused r; written = 0 }
 
 unfoldable pub step : Listener → Call → Outcome
-step l c = outcomeOf l c (judged l c)
+step l c = outcomeOf l c (callCheck l c)
 
 abbrev pub outputIf : View → Call → Check → List ℕ
 outputIf v c Clear = doneOutput v c
@@ -227,8 +227,8 @@ outputIf v c (Refused r) = []
 
 -- what a call writes at the output's start
 unfoldable pub outputOf : Listener → Call → List ℕ
-outputOf l c = outputIf (viewOf l c) c (judged l c)
+outputOf l c = outputIf (viewOf l c) c (callCheck l c)
 
 -- "Plain readings": the pending number, 0 where never started
 unfoldable pub pendingNumber : Listener → ℕ
-pendingNumber l = cond (l .home .started) (pendingAt (l .clock) (l .slots)) 0
+pendingNumber l = cond (l .local .started) (pendingAt (l .clock) (l .slots)) 0

@@ -8,7 +8,7 @@ use lib.ListN.{replicate}
 use Rattle.lists.specs.Lists.{tally, firstIndex}
 use Rattle.endpoint.specs.Address.{sameName}
 use Rattle.protocol.specs.declared.slots.Status.{Status}
-use Rattle.protocol.specs.declared.slots.Status.the-variants.{Free, SynReceived, FastOpen, ResetHeld, Established}
+use Rattle.protocol.specs.declared.slots.Status.the-variants.{Free, SynReceived, SynReceivedEarly, ResetHeld, Established}
 use Rattle.protocol.specs.declared.slots.Slot.{Slot}
 use Rattle.protocol.specs.declared.slots.Scan.{Scan}
 
@@ -16,7 +16,7 @@ use Rattle.protocol.specs.declared.slots.Scan.{Scan}
 abbrev pub isLive : ℕ → Status → Bool
 isLive t Free = false
 isLive t SynReceived = true
-isLive t (FastOpen n) = true
+isLive t (SynReceivedEarly n) = true
 isLive t (ResetHeld end) = ltb t end
 isLive t Established = true
 
@@ -24,7 +24,7 @@ isLive t Established = true
 abbrev pub isPending : ℕ → Status → Bool
 isPending t Free = false
 isPending t SynReceived = false
-isPending t (FastOpen n) = true
+isPending t (SynReceivedEarly n) = true
 isPending t (ResetHeld end) = ltb t end
 isPending t Established = false
 
@@ -32,21 +32,21 @@ isPending t Established = false
 abbrev pub isWaiting : Status → Bool
 isWaiting Free = false
 isWaiting SynReceived = true
-isWaiting (FastOpen n) = true
+isWaiting (SynReceivedEarly n) = true
 isWaiting (ResetHeld end) = false
 isWaiting Established = false
 
 abbrev pub isEstablished : Status → Bool
 isEstablished Free = false
 isEstablished SynReceived = false
-isEstablished (FastOpen n) = false
+isEstablished (SynReceivedEarly n) = false
 isEstablished (ResetHeld end) = false
 isEstablished Established = true
 
 abbrev pub isFree : Status → Bool
 isFree Free = true
 isFree SynReceived = false
-isFree (FastOpen n) = false
+isFree (SynReceivedEarly n) = false
 isFree (ResetHeld end) = false
 isFree Established = false
 
@@ -54,7 +54,7 @@ isFree Established = false
 abbrev pub acceptedWith : Status → ℕ
 acceptedWith Free = 0
 acceptedWith SynReceived = 0
-acceptedWith (FastOpen n) = n
+acceptedWith (SynReceivedEarly n) = n
 acceptedWith (ResetHeld end) = 0
 acceptedWith Established = 0
 
@@ -62,7 +62,7 @@ acceptedWith Established = 0
 abbrev pub afterReset : ℕ → Status → Status
 afterReset end Free = Free
 afterReset end SynReceived = Free
-afterReset end (FastOpen n) = ResetHeld end
+afterReset end (SynReceivedEarly n) = ResetHeld end
 afterReset end (ResetHeld e) = ResetHeld e
 afterReset end Established = Established
 

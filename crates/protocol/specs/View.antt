@@ -10,7 +10,7 @@ use Rattle.endpoint.specs.Address.{Peer, size, block}
 use Rattle.endpoint.specs.Checks.{isUntimely}
 use Rattle.protocol.specs.Table.{isFree, freeSlot, scanOf}
 use Rattle.protocol.specs.Call.{Call, timeOf, peerOf}
-use Rattle.protocol.specs.declared.state.Home.{Home}
+use Rattle.protocol.specs.declared.state.LocalEndpoint.{LocalEndpoint}
 use Rattle.protocol.specs.declared.state.InForce.{InForce}
 use Rattle.protocol.specs.declared.state.Listener.{Listener}
 use Rattle.protocol.specs.declared.state.View.{View}
@@ -29,7 +29,7 @@ slotAt l i = getD (l .slots) i freeSlot
 abbrev pub viewFrom : Listener → ℕ → Scan → View
 viewFrom l t s =
     record {
-      home = l .home;
+      local = l .local;
       untimely = isUntimely (l .clock) t;
       settings = settingsAt l t;
       keys = l .keys;
@@ -53,5 +53,5 @@ abbrev pub known : View → Bool
 known v = not (isFree (v .slot .status))
 
 -- own address, out of its block
-abbrev pub ownAddress : Home → List ℕ
+abbrev pub ownAddress : LocalEndpoint → List ℕ
 ownAddress h = take (size (h .family)) (h .own)

@@ -1,5 +1,5 @@
 // The listener's rules: the types that it keeps and answers, with the definitions in specs/ of what each call does and the theorems in proofs/ over every
 // list of calls. This crate has no functions: the code that meets these rules is in the crates above it.
-pub mod answer;
+pub mod outcome;
 pub mod slots;
 pub mod state;

@@ -4,7 +4,7 @@
 pub enum Status {
     Free,
     SynReceived,
-    FastOpen(u32),
+    SynReceivedEarly(u32),
     ResetHeld(u64),
     Established,
 }

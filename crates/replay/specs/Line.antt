@@ -7,9 +7,9 @@ use lib.ListN.{length, take}
 use Rattle.segment.specs.declared.refusal.Check.{Check}
 use Rattle.segment.specs.declared.refusal.Check.the-variants.{Clear}
 use Rattle.segment.specs.declared.refusal.Check.the-variants.{Refused as CheckRefused}
-use Rattle.protocol.specs.declared.answer.Event.{Event}
-use Rattle.protocol.specs.declared.answer.Event.the-variants.{Refused, Done}
-use Rattle.protocol.specs.Call.{numberOfEvent, acceptedOf, SegmentKind, opening, reset, completion, none, kindOfEvent, Verdict, early, plain, repeat, unjudged, verdictOf}
+use Rattle.protocol.specs.declared.outcome.Event.{Event}
+use Rattle.protocol.specs.declared.outcome.Event.the-variants.{Refused, Done}
+use Rattle.protocol.specs.Call.{numberOfEvent, acceptedOf, SegmentKind, opening, reset, completion, none, kindOfEvent, Verdict, early, plain, repeat, noVerdict, verdictOf}
 use Rattle.text.specs.Number.{decimal}
 use Rattle.text.specs.ByteString.{hexWord}
 use Rattle.text.specs.Output.{isKept}
@@ -29,11 +29,11 @@ abbrev pub verdictWord : Verdict → List ℕ
 verdictWord early = 101 ∷ 97 ∷ 114 ∷ 108 ∷ 121 ∷ []
 verdictWord plain = 112 ∷ 108 ∷ 97 ∷ 105 ∷ 110 ∷ []
 verdictWord repeat = 114 ∷ 101 ∷ 112 ∷ 101 ∷ 97 ∷ 116 ∷ []
-verdictWord unjudged = 45 ∷ []
+verdictWord noVerdict = 45 ∷ []
 
 -- NUMBER KIND VERDICT ACCEPTED WRITTEN PENDING OUTPUT PART REST
-unfoldable pub answerLine : Event → ℕ → List ℕ → List ℕ → Bool → List ℕ
-answerLine event pending written part kept =
+unfoldable pub lineOf : Event → ℕ → List ℕ → List ℕ → Bool → List ℕ
+lineOf event pending written part kept =
     fields
     (decimal (numberOfEvent event)
     ∷ kindWord (kindOfEvent event)
@@ -48,7 +48,7 @@ answerLine event pending written part kept =
 
 -- what a call came to: PENDING is the pending number after it, OUTPUT the bytes written to the lent output, and REST tells of the others
 unfoldable pub outcomeLine : Listener → Event → List ℕ → ℕ → List ℕ → List ℕ
-outcomeLine l event lent written part = answerLine event (pendingNumber l) (take written lent) part (isKept written lent)
+outcomeLine l event lent written part = lineOf event (pendingNumber l) (take written lent) part (isKept written lent)
 
 -- a start prints like any other call that is no segment
 abbrev pub eventOf : Check → Event

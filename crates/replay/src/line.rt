@@ -1,8 +1,8 @@
 // The line that a call's answer prints.
-use listener::answer::accepted_count;
-use listener::answer::event_number;
 use listener::calls::pending;
-use protocol::answer::Event;
+use listener::outcome::accepted_count;
+use listener::outcome::event_number;
+use protocol::outcome::Event;
 use protocol::state::Listener;
 use segment::refusal::Check;
 use text::output::is_kept;
@@ -16,7 +16,7 @@ ghost use mathlib.Core.List.{_++_};
 ghost use lib.ListN.{length};
 ghost use Rattle.protocol.specs.Call.{kindOfEvent, verdictOf};
 ghost use Rattle.text.specs.Put.{placeAfter, laid, field};
-ghost use Rattle.replay.specs.Line.{kindWord, verdictWord, answerLine, outcomeLine, eventOf};
+ghost use Rattle.replay.specs.Line.{kindWord, verdictWord, lineOf, outcomeLine, eventOf};
 
 // Puts the line of what a call came to at the buffer's start, and says where it ends: `l` is the listener after it, `lent` the output that was lent to it.
 pub(crate) fn put_outcome(
@@ -31,11 +31,11 @@ pub(crate) fn put_outcome(
     ensures { λ _. ⌜ now (out .exit) ≡ laid 0 (outcomeLine l event (now (lent .entry)) written (now (part .entry))) (now (out .entry)) ⌝ }
 {
     let kept = is_kept(lent, written);
-    put_answer(out, event, pending(l), first(lent, written), part, kept)
+    put_fields(out, event, pending(l), first(lent, written), part, kept)
 }
 
 // Puts the fields of an answer.
-fn put_answer(
+fn put_fields(
     out: &mut [u8],
     event: Event,
     pending: u32,
@@ -43,8 +43,8 @@ fn put_answer(
     part: &[u8],
     kept: bool,
 ) -> usize
-    ensures { λ r. ⌜ r ≡ placeAfter 0 (length (answerLine event pending (now (written .entry)) (now (part .entry)) kept)) (length (now (out .entry))) ⌝ }
-    ensures { λ _. ⌜ now (out .exit) ≡ laid 0 (answerLine event pending (now (written .entry)) (now (part .entry)) kept) (now (out .entry)) ⌝ }
+    ensures { λ r. ⌜ r ≡ placeAfter 0 (length (lineOf event pending (now (written .entry)) (now (part .entry)) kept)) (length (now (out .entry))) ⌝ }
+    ensures { λ _. ⌜ now (out .exit) ≡ laid 0 (lineOf event pending (now (written .entry)) (now (part .entry)) kept) (now (out .entry)) ⌝ }
 {
     let a = put_number_field(out, 0, event_number(event) as u64);
     let b = put_kind_and_verdict(out, a, event);
@@ -62,7 +62,7 @@ fn put_kind_and_verdict(out: &mut [u8], at: usize, event: Event) -> usize
 {
     match event {
         Event::Refused(_) => put_field(out, at, b"- -"),
-        Event::FastOpen(_) => put_field(out, at, b"opening early"),
+        Event::FastOpened(_) => put_field(out, at, b"opening early"),
         Event::Regular => put_field(out, at, b"opening plain"),
         Event::Retransmission => put_field(out, at, b"opening repeat"),
         Event::Completed => put_field(out, at, b"completion -"),

@@ -2,7 +2,6 @@
 use crate::line::event_of;
 use crate::line::put_outcome;
 use libc::STDOUT_FILENO;
-use listener::answer::accepted_part;
 use listener::calls::abandon;
 use listener::calls::close;
 use listener::calls::resend;
@@ -10,8 +9,9 @@ use listener::calls::segment;
 use listener::calls::set_key;
 use listener::calls::set_settings;
 use listener::calls::start;
-use protocol::answer::Event;
-use protocol::answer::Outcome;
+use listener::outcome::accepted_part;
+use protocol::outcome::Event;
+use protocol::outcome::Outcome;
 use protocol::state::Listener;
 use protocol::state::Settings;
 use text::bytestring::ByteString;
@@ -98,7 +98,7 @@ fn play_settings(l: Listener, line: &[u8]) -> Listener {
     let Number32::Value(limit) = read_number32(word_at(line, 3)) else {
         return bad_line(l);
     };
-    let Number32::Value(room) = read_number32(word_at(line, 4)) else {
+    let Number32::Value(early_room) = read_number32(word_at(line, 4)) else {
         return bad_line(l);
     };
     let Number32::Value(hold) = read_number32(word_at(line, 5)) else {
@@ -110,7 +110,7 @@ fn play_settings(l: Listener, line: &[u8]) -> Listener {
     let g = Settings {
         on,
         limit,
-        room,
+        early_room,
         hold,
         mss,
     };
@@ -140,10 +140,10 @@ fn lend_segment(
     seg: &[u8],
     iss: u32,
     out: &mut [u8],
-    room: usize,
+    out_len: usize,
 ) -> Outcome {
-    if room < out.len() {
-        return segment(l, time, src, seg, iss, &mut out[..room]);
+    if out_len < out.len() {
+        return segment(l, time, src, seg, iss, &mut out[..out_len]);
     }
     segment(l, time, src, seg, iss, out)
 }
@@ -165,7 +165,7 @@ fn play_segment(l: Listener, line: &[u8]) -> Listener {
     let Number32::Value(iss) = read_number32(word_at(line, 3)) else {
         return bad_line(l);
     };
-    let Number::Value(room) = read_number(word_at(line, 4), MOST_OUTPUT as u64) else {
+    let Number::Value(out_len) = read_number(word_at(line, 4), MOST_OUTPUT as u64) else {
         return bad_line(l);
     };
     let ByteString::Count(m) = read_bytes(word_at(line, 5), &mut seg) else {
@@ -178,12 +178,12 @@ fn play_segment(l: Listener, line: &[u8]) -> Listener {
         first(&seg, m),
         iss,
         &mut out,
-        room as usize,
+        out_len as usize,
     );
     let event = o.event;
     let part = accepted_part(first(&seg, m), event);
     let next = o.listener;
-    print_outcome(next, event, first(&out, room as usize), o.written, part);
+    print_outcome(next, event, first(&out, out_len as usize), o.written, part);
     next
 }
 
@@ -212,10 +212,10 @@ fn lend_resend(
     addr: &[u8],
     port: u16,
     out: &mut [u8],
-    room: usize,
+    out_len: usize,
 ) -> Outcome {
-    if room < out.len() {
-        return resend(l, time, addr, port, &mut out[..room]);
+    if out_len < out.len() {
+        return resend(l, time, addr, port, &mut out[..out_len]);
     }
     resend(l, time, addr, port, out)
 }
@@ -234,13 +234,26 @@ fn play_resend(l: Listener, line: &[u8]) -> Listener {
     let Name::Known { size, port } = read_name(word_at(line, 2), word_at(line, 3), &mut addr) else {
         return bad_line(l);
     };
-    let Number::Value(room) = read_number(word_at(line, 4), MOST_OUTPUT as u64) else {
+    let Number::Value(out_len) = read_number(word_at(line, 4), MOST_OUTPUT as u64) else {
         return bad_line(l);
     };
-    let o = lend_resend(l, time, first(&addr, size), port, &mut out, room as usize);
+    let o = lend_resend(
+        l,
+        time,
+        first(&addr, size),
+        port,
+        &mut out,
+        out_len as usize,
+    );
     let event = o.event;
     let next = o.listener;
-    print_outcome(next, event, first(&out, room as usize), o.written, &nothing);
+    print_outcome(
+        next,
+        event,
+        first(&out, out_len as usize),
+        o.written,
+        &nothing,
+    );
     next
 }
 

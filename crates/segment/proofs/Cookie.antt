@@ -10,8 +10,8 @@ use lib.Dec.{eqb, leb}
 use borrow.Author.Tests.{leb-true, eqb-true, le-leb, eq-eqb}
 use Rattle.segment.specs.Bytes.{byteAt}
 use Rattle.segment.specs.Header.{has, SYN, optionArea}
-use Rattle.segment.specs.declared.options.FastOpen.{FastOpen}
-use Rattle.segment.specs.declared.options.FastOpen.the-variants.{Absent, Request, Cookie}
+use Rattle.segment.specs.declared.options.FastOpenOption.{FastOpenOption}
+use Rattle.segment.specs.declared.options.FastOpenOption.the-variants.{Absent, Request, Cookie}
 use Rattle.segment.specs.declared.options.Options.{Options}
 use Rattle.segment.specs.Options.{isCookieLength, cookieAt, fastOpenOption, firstFastOpen, withOption, readFrom, readOptions, ifSyn, optionsOf, cookieBytes}
 use Rattle.lists.proofs.Bools.{and-true, chosen}
@@ -27,12 +27,12 @@ pub record Inside (n at len : ℕ) : Type 0 where
   pub fits : at + len ≤ n
   pub size : CookieLength len
 
-abbrev pub AllInside : ℕ → FastOpen → Type 0
+abbrev pub AllInside : ℕ → FastOpenOption → Type 0
 AllInside n Absent = Unit {0}
 AllInside n Request = Unit {0}
 AllInside n (Cookie at len) = Inside n at len
 
-first-inside : (n : ℕ) (f g : FastOpen) → AllInside n f → AllInside n g → AllInside n (firstFastOpen f g)
+first-inside : (n : ℕ) (f g : FastOpenOption) → AllInside n f → AllInside n g → AllInside n (firstFastOpen f g)
 first-inside n Absent g p q = q
 first-inside n Request g p q = tt
 first-inside n (Cookie at len) g p q = p

@@ -7,27 +7,27 @@ use native.Mathlib.Omega.{arith}
 use lib.ListN.{length}
 use borrow.Author.Tests.{le-leb, ne-eqb}
 use Rattle.lists.specs.Bytes.{Bytes}
-use Rattle.segment.specs.Header.{SYN, ACK, has, kindOf, synAck}
+use Rattle.segment.specs.Header.{SYN, ACK, has, kindOf, isSynAck}
 use Rattle.segment.specs.Options.{isCookieLength}
 use Rattle.segment.specs.Checksum.{oneFamily}
 use Rattle.segment.specs.Sequence.{nextAfter, difference, acknowledged}
-use Rattle.segment.specs.Write.{answerLength, optionAllowed, optionBytes, optionsFor, lengthFor, canWrite, written, answerFields, answerBytes, openingFields, openingBytes}
+use Rattle.segment.specs.Write.{synAckLength, optionAllowed, optionBytes, optionsFor, lengthFor, canWrite, written, synAckFields, synAckBytes, openingFields, openingBytes}
 use Rattle.segment.specs.declared.header.Kind.the-variants.{Syn}
-use Rattle.segment.specs.declared.write.Answer.{Answer}
+use Rattle.segment.specs.declared.write.SynAck.{SynAck}
 use Rattle.segment.specs.declared.write.Opening.{Opening}
 use Rattle.segment.specs.declared.write.Outgoing.{Outgoing}
 use Rattle.segment.proofs.Cookie.{Inside, cookie-length-back}
 use Rattle.segment.proofs.Writes.{options-plain, options-fast}
 use Rattle.segment.proofs.Written.{options-most, segment-length}
-use Rattle.segment.proofs.Agreement.{Fits, ReadBack, read-back}
+use Rattle.segment.proofs.ReadBack.{Fits, ReadBack, read-back}
 
 -- Where there is room
 
-can-write : (src dst : List ℕ) (f : Outgoing) (cookie payload : List ℕ) (room : ℕ) → oneFamily src dst ≡ true
-    → optionAllowed (f .fast) (length cookie) ≡ true → lengthFor f cookie payload ≤ 1520 → lengthFor f cookie payload ≤ room
-    → canWrite src dst f cookie payload room ≡ true
+can-write : (src dst : List ℕ) (f : Outgoing) (cookie payload : List ℕ) (out-len : ℕ) → oneFamily src dst ≡ true
+    → optionAllowed (f .fast) (length cookie) ≡ true → lengthFor f cookie payload ≤ 1520 → lengthFor f cookie payload ≤ out-len
+    → canWrite src dst f cookie payload out-len ≡ true
 unfolding canWrite
-can-write src dst f cookie payload room e s h r = rw (e, s, le-leb (lengthFor f cookie payload) 1520 h, le-leb (lengthFor f cookie payload) room r)
+can-write src dst f cookie payload out-len e s h r = rw (e, s, le-leb (lengthFor f cookie payload) 1520 h, le-leb (lengthFor f cookie payload) out-len r)
 
 -- the options that a segment may have: a request, a cookie that was found in an area, and one of eight bytes
 pub allowed-request : (fast : Bool) → optionAllowed fast 0 ≡ true
@@ -47,49 +47,49 @@ unfolding optionAllowed isCookieLength
 allowed-eight false n e = refl
 allowed-eight true n e = rw e
 
-answer-length : (a : Answer) (cookie : List ℕ) → length cookie ≡ 8 → lengthFor (answerFields a) cookie [] ≡ answerLength (a .fresh)
-answer-length a cookie h = go (a .fresh)
+syn-ack-length : (a : SynAck) (cookie : List ℕ) → length cookie ≡ 8 → lengthFor (synAckFields a) cookie [] ≡ synAckLength (a .fresh)
+syn-ack-length a cookie h = go (a .fresh)
   where
-    go : (b : Bool) → 20 + length (optionBytes (a .mss) b cookie) + 0 ≡ answerLength b
+    go : (b : Bool) → 20 + length (optionBytes (a .mss) b cookie) + 0 ≡ synAckLength b
     go false = omega (arith, options-plain (a .mss) cookie)
     go true = omega (arith, options-fast (a .mss) cookie)
 
-answer-most : (fresh : Bool) → answerLength fresh ≤ 36
-answer-most false = omega arith
-answer-most true = omega arith
+syn-ack-most : (fresh : Bool) → synAckLength fresh ≤ 36
+syn-ack-most false = omega arith
+syn-ack-most true = omega arith
 
 -- 36 bytes of output are enough for any answer
-pub answer-can : (src dst : List ℕ) (a : Answer) (cookie : List ℕ) (room : ℕ) → oneFamily src dst ≡ true → length cookie ≡ 8 → 36 ≤ room
-    → canWrite src dst (answerFields a) cookie [] room ≡ true
-answer-can src dst a cookie room e l r =
-    let n = answer-length a cookie l in
-    let m = answer-most (a .fresh) in
-    can-write src dst (answerFields a) cookie [] room e (allowed-eight (a .fresh) (length cookie) l) (omega arith) (omega arith)
+pub syn-ack-can : (src dst : List ℕ) (a : SynAck) (cookie : List ℕ) (out-len : ℕ) → oneFamily src dst ≡ true → length cookie ≡ 8 → 36 ≤ out-len
+    → canWrite src dst (synAckFields a) cookie [] out-len ≡ true
+syn-ack-can src dst a cookie out-len e l r =
+    let n = syn-ack-length a cookie l in
+    let m = syn-ack-most (a .fresh) in
+    can-write src dst (synAckFields a) cookie [] out-len e (allowed-eight (a .fresh) (length cookie) l) (omega arith) (omega arith)
 
 -- and it has 24 or 36 of them
-pub answer-bytes : (src dst : List ℕ) (a : Answer) (cookie : List ℕ) (room : ℕ) → oneFamily src dst ≡ true → length cookie ≡ 8 → 36 ≤ room
-    → length (answerBytes src dst a cookie room) ≡ answerLength (a .fresh)
-unfolding answerBytes written
-answer-bytes src dst a cookie room e l r =
-    rw (answer-can src dst a cookie room e l r) (segment-length src dst (answerFields a) (optionsFor (answerFields a) cookie) [] ∙ answer-length a cookie l)
+pub syn-ack-bytes : (src dst : List ℕ) (a : SynAck) (cookie : List ℕ) (out-len : ℕ) → oneFamily src dst ≡ true → length cookie ≡ 8 → 36 ≤ out-len
+    → length (synAckBytes src dst a cookie out-len) ≡ synAckLength (a .fresh)
+unfolding synAckBytes written
+syn-ack-bytes src dst a cookie out-len e l r =
+    rw (syn-ack-can src dst a cookie out-len e l r) (segment-length src dst (synAckFields a) (optionsFor (synAckFields a) cookie) [] ∙ syn-ack-length a cookie l)
 
 -- where no cookie goes with it, it is the same whatever cookie is at hand
-pub answer-without : (src dst : List ℕ) (a : Answer) (c d : List ℕ) (room : ℕ) → a .fresh ≡ false → answerBytes src dst a c room ≡ answerBytes src dst a d room
-unfolding answerBytes written canWrite optionAllowed optionBytes
-answer-without src dst a c d room e = rw e
+pub syn-ack-without : (src dst : List ℕ) (a : SynAck) (c d : List ℕ) (out-len : ℕ) → a .fresh ≡ false → synAckBytes src dst a c out-len ≡ synAckBytes src dst a d out-len
+unfolding synAckBytes written canWrite optionAllowed optionBytes
+syn-ack-without src dst a c d out-len e = rw e
 
 -- 1,504 are enough for any opening with a payload of up to 1,460 bytes
-pub opening-can : (src dst : List ℕ) (o : Opening) (cookie payload : List ℕ) (room : ℕ) → oneFamily src dst ≡ true
-    → optionAllowed (o .fast) (length cookie) ≡ true → length payload ≤ 1460 → 1504 ≤ room
-    → canWrite src dst (openingFields o) cookie payload room ≡ true
-opening-can src dst o cookie payload room e s p r =
+pub opening-can : (src dst : List ℕ) (o : Opening) (cookie payload : List ℕ) (out-len : ℕ) → oneFamily src dst ≡ true
+    → optionAllowed (o .fast) (length cookie) ≡ true → length payload ≤ 1460 → 1504 ≤ out-len
+    → canWrite src dst (openingFields o) cookie payload out-len ≡ true
+opening-can src dst o cookie payload out-len e s p r =
     let m = options-most (o .mss) (o .fast) cookie s in
-    can-write src dst (openingFields o) cookie payload room e s (omega arith) (omega arith)
+    can-write src dst (openingFields o) cookie payload out-len e s (omega arith) (omega arith)
 
-pub opening-length : (src dst : List ℕ) (o : Opening) (cookie payload : List ℕ) (room : ℕ) → canWrite src dst (openingFields o) cookie payload room ≡ true
-    → length (openingBytes src dst o cookie payload room) ≡ lengthFor (openingFields o) cookie payload
+pub opening-length : (src dst : List ℕ) (o : Opening) (cookie payload : List ℕ) (out-len : ℕ) → canWrite src dst (openingFields o) cookie payload out-len ≡ true
+    → length (openingBytes src dst o cookie payload out-len) ≡ lengthFor (openingFields o) cookie payload
 unfolding openingBytes written
-opening-length src dst o cookie payload room can = rw can (segment-length src dst (openingFields o) (optionsFor (openingFields o) cookie) payload)
+opening-length src dst o cookie payload out-len can = rw can (segment-length src dst (openingFields o) (optionsFor (openingFields o) cookie) payload)
 
 -- Read by the other end
 
@@ -98,28 +98,28 @@ unfolding nextAfter
 next-fits initial bytes = omega arith
 
 -- the fields of an answer and of an opening fit, if their numbers do
-pub answer-fits : (a : Answer) → a .source < 65536 → a .dest < 65536 → a .iss < 4294967296 → a .mss < 65536 → Fits (answerFields a)
-answer-fits a s d i m = record { source = s; dest = d; seq = i; ack = next-fits (a .irs) (a .accepted); flags = omega arith; mss = m }
+pub syn-ack-fits : (a : SynAck) → a .source < 65536 → a .dest < 65536 → a .iss < 4294967296 → a .mss < 65536 → Fits (synAckFields a)
+syn-ack-fits a s d i m = record { source = s; dest = d; seq = i; ack = next-fits (a .irs) (a .accepted); flags = omega arith; mss = m }
 
 pub opening-fits : (o : Opening) → o .source < 65536 → o .dest < 65536 → o .iss < 4294967296 → o .mss < 65536 → Fits (openingFields o)
 opening-fits o s d i m = record { source = s; dest = d; seq = i; ack = omega arith; flags = omega arith; mss = m }
 
 -- the client reads an answer as it was written, and takes it for one
-pub answer-read : (src dst : List ℕ) (a : Answer) (cookie : List ℕ) (room : ℕ) → canWrite src dst (answerFields a) cookie [] room ≡ true
-    → Fits (answerFields a) → Bytes src → Bytes dst → Bytes cookie → ReadBack src dst (answerFields a) cookie [] (answerBytes src dst a cookie room)
-unfolding answerBytes has
-answer-read src dst a cookie room can h bs bd bc = read-back src dst (answerFields a) cookie [] room can refl h bs bd bc tt
+pub syn-ack-read : (src dst : List ℕ) (a : SynAck) (cookie : List ℕ) (out-len : ℕ) → canWrite src dst (synAckFields a) cookie [] out-len ≡ true
+    → Fits (synAckFields a) → Bytes src → Bytes dst → Bytes cookie → ReadBack src dst (synAckFields a) cookie [] (synAckBytes src dst a cookie out-len)
+unfolding synAckBytes has
+syn-ack-read src dst a cookie out-len can h bs bd bc = read-back src dst (synAckFields a) cookie [] out-len can refl h bs bd bc tt
 
-pub answer-kind : synAck (SYN + ACK) ≡ true
-unfolding synAck has
-answer-kind = refl
+pub syn-ack-kind : isSynAck (SYN + ACK) ≡ true
+unfolding isSynAck has
+syn-ack-kind = refl
 
 -- the listener reads an opening as it was written, and takes it for one
-pub opening-read : (src dst : List ℕ) (o : Opening) (cookie payload : List ℕ) (room : ℕ) → canWrite src dst (openingFields o) cookie payload room ≡ true
+pub opening-read : (src dst : List ℕ) (o : Opening) (cookie payload : List ℕ) (out-len : ℕ) → canWrite src dst (openingFields o) cookie payload out-len ≡ true
     → Fits (openingFields o) → Bytes src → Bytes dst → Bytes cookie → Bytes payload
-    → ReadBack src dst (openingFields o) cookie payload (openingBytes src dst o cookie payload room)
+    → ReadBack src dst (openingFields o) cookie payload (openingBytes src dst o cookie payload out-len)
 unfolding openingBytes has
-opening-read src dst o cookie payload room can h bs bd bc bp = read-back src dst (openingFields o) cookie payload room can refl h bs bd bc bp
+opening-read src dst o cookie payload out-len can h bs bd bc bp = read-back src dst (openingFields o) cookie payload out-len can refl h bs bd bc bp
 
 pub opening-kind : kindOf SYN ≡ Syn
 unfolding kindOf has

@@ -1,14 +1,14 @@
--- For the crates above: Formed (a well-formed segment and its parts), Cookie (a cookie's place), Exchange (what one end writes and the other reads),
--- Numbers (the refusals), Sixteen (the table of sixteen). The others carry these and the functions' proofs.
-pub mod Formed
+-- For the crates above: Malformed (a well-formed segment and its parts), Cookie (a cookie's place), Exchange (what one end writes and the other reads),
+-- NumberOf (the refusals), Sixteen (the table of sixteen). The others carry these and the functions' proofs.
+pub mod Malformed
 pub mod Cookie
 pub mod Exchange
-pub mod Numbers
+pub mod NumberOf
 pub mod Sixteen
-pub mod Folding
-pub mod Family
-pub mod Agreement
-pub mod Reading
-pub mod Sums
+pub mod Folded
+pub mod OneFamily
+pub mod ReadBack
+pub mod ReadFrom
+pub mod Total
 pub mod Writes
 pub mod Written

@@ -11,8 +11,8 @@ use Rattle.segment.specs.Sequence.{nextAfter, difference, inWindow}
 use Rattle.segment.specs.Options.{nothing, mssOption, isCookieLength, cookieAt, fastOpenOption, withOption, readFrom, readOptions}
 use Rattle.segment.specs.Found.{onlyFastOpen, onlyMss, FoundCookie, EarlierStands}
 use Rattle.segment.specs.Checksum.{onesAdd, onesSum, pseudoHeader, segmentSum}
-use Rattle.segment.specs.Write.{optionBytes, headerBytes, segmentWith, segmentBytes, optionAllowed, canWrite, written, answerBytes}
-use Rattle.segment.specs.declared.options.FastOpen.the-variants.{Request}
+use Rattle.segment.specs.Write.{optionBytes, headerBytes, segmentWith, segmentBytes, optionAllowed, canWrite, written, synAckBytes}
+use Rattle.segment.specs.declared.options.FastOpenOption.the-variants.{Request}
 
 -- 1, 2: acknowledgements
 pub row1 : nextAfter 4294967295 0 ≡ 0
@@ -75,10 +75,10 @@ unfolding readOptions readFrom withOption mssOption fastOpenOption cookieAt isCo
 row12 = (refl, λ a b. refl)
 
 -- 16: the answer's bytes, in any output that has room for them
-pub row16 : (cookie : List ℕ) (room : ℕ) → 24 ≤ room
-    → answerBytes (192 ∷ 0 ∷ 2 ∷ 2 ∷ []) (192 ∷ 0 ∷ 2 ∷ 1 ∷ [])
-    (record { source = 443; dest = 40000; iss = 1000; irs = 4294967295; accepted = 0; mss = 1460; fresh = false }) cookie room
+pub row16 : (cookie : List ℕ) (out-len : ℕ) → 24 ≤ out-len
+    → synAckBytes (192 ∷ 0 ∷ 2 ∷ 2 ∷ []) (192 ∷ 0 ∷ 2 ∷ 1 ∷ [])
+    (record { source = 443; dest = 40000; iss = 1000; irs = 4294967295; accepted = 0; mss = 1460; fresh = false }) cookie out-len
     ≡ 0x01 ∷ 0xBB ∷ 0x9C ∷ 0x40 ∷ 0x00 ∷ 0x00 ∷ 0x03 ∷ 0xE8 ∷ 0x00 ∷ 0x00 ∷ 0x00 ∷ 0x00 ∷ 0x60 ∷ 0x12 ∷ 0xFF ∷ 0xFF
     ∷ 0x72 ∷ 0x2F ∷ 0x00 ∷ 0x00 ∷ 0x02 ∷ 0x04 ∷ 0x05 ∷ 0xB4 ∷ []
-unfolding answerBytes written canWrite optionAllowed nextAfter segmentBytes segmentWith segmentSum headerBytes pseudoHeader optionBytes onesSum onesAdd
-row16 cookie room h = rw (le-leb 24 room h)
+unfolding synAckBytes written canWrite optionAllowed nextAfter segmentBytes segmentWith segmentSum headerBytes pseudoHeader optionBytes onesSum onesAdd
+row16 cookie out-len h = rw (le-leb 24 out-len h)

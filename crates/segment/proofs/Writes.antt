@@ -12,7 +12,7 @@ use Rattle.segment.specs.Checksum.{onesSum, complement}
 use Rattle.segment.specs.Write.{padding, padded, mssBytes, fastOpenBytes, optionBytes, headerBytes}
 use Rattle.lists.specs.Bytes.{overwrite}
 use Rattle.lists.proofs.Lent.{lent, lent-out, copied}
-use Rattle.segment.proofs.Sums.{sum-append}
+use Rattle.segment.proofs.Total.{sum-append}
 
 -- the first n bytes of the output o are those of a, and the later ones stay
 abbrev pub Wrote : List ℕ → List ℕ → ℕ → List ℕ → Type 0
@@ -54,14 +54,14 @@ options-least mss false ck = omega (arith, options-plain mss ck)
 options-least mss true ck = omega (arith, options-fast mss ck)
 
 -- an output with room for them has room for each of their parts
-pub room-for-cookie : (mss : ℕ) (fast : Bool) (ck : List ℕ) (n : ℕ) → not fast ≡ false → length (optionBytes mss fast ck) ≤ n → 6 + length ck ≤ n
-room-for-cookie mss true ck n e h = omega (arith, options-fast mss ck)
-room-for-cookie mss false ck n e h = absurd (true≢false e)
+pub cookie-fits : (mss : ℕ) (fast : Bool) (ck : List ℕ) (n : ℕ) → not fast ≡ false → length (optionBytes mss fast ck) ≤ n → 6 + length ck ≤ n
+cookie-fits mss true ck n e h = omega (arith, options-fast mss ck)
+cookie-fits mss false ck n e h = absurd (true≢false e)
 
-pub room-for-padding : (mss : ℕ) (fast : Bool) (ck : List ℕ) (n at : ℕ) → not fast ≡ false → length (optionBytes mss fast ck) ≤ n → at ≡ 6 + length ck
+pub padding-fits : (mss : ℕ) (fast : Bool) (ck : List ℕ) (n at : ℕ) → not fast ≡ false → length (optionBytes mss fast ck) ≤ n → at ≡ 6 + length ck
     → at + padding at ≤ n
-room-for-padding mss true ck n at e h k = subst (λ (x : ℕ). x + padding x ≤ n) (sym k) (omega (arith, options-fast mss ck))
-room-for-padding mss false ck n at e h k = absurd (true≢false e)
+padding-fits mss true ck n at e h k = subst (λ (x : ℕ). x + padding x ≤ n) (sym k) (omega (arith, options-fast mss ck))
+padding-fits mss false ck n at e h k = absurd (true≢false e)
 
 -- up to three bytes of kind 1
 pub ones : (n : ℕ) → n < 4 → take {A = ℕ} n (1 ∷ 1 ∷ 1 ∷ []) ≡ replicate n 1

@@ -18,21 +18,21 @@ use Rattle.segment.proofs.Cookie.{cookie-length}
 use Rattle.segment.proofs.Writes.{options-plain, options-fast, options-least}
 
 -- what `canWrite` tests
-pub record Writable (src dst : List ℕ) (f : Outgoing) (cookie payload : List ℕ) (room : ℕ) : Type 0 where
+pub record Writable (src dst : List ℕ) (f : Outgoing) (cookie payload : List ℕ) (out-len : ℕ) : Type 0 where
   pub one : oneFamily src dst ≡ true
   pub options : optionAllowed (f .fast) (length cookie) ≡ true
   pub short : lengthFor f cookie payload ≤ 1520
-  pub fits : lengthFor f cookie payload ≤ room
+  pub fits : lengthFor f cookie payload ≤ out-len
 
-pub writable : (src dst : List ℕ) (f : Outgoing) (cookie payload : List ℕ) (room : ℕ) → canWrite src dst f cookie payload room ≡ true
-    → Writable src dst f cookie payload room
+pub writable : (src dst : List ℕ) (f : Outgoing) (cookie payload : List ℕ) (out-len : ℕ) → canWrite src dst f cookie payload out-len ≡ true
+    → Writable src dst f cookie payload out-len
 unfolding canWrite
-writable src dst f cookie payload room e =
+writable src dst f cookie payload out-len e =
     let n = lengthFor f cookie payload in
     let a = and-true (oneFamily src dst) _ e in
     let b = and-true (optionAllowed (f .fast) (length cookie)) _ (a .1) in
-    let d = and-true (leb n 1520) (leb n room) (b .1) in
-    record { one = a .0; options = b .0; short = leb-true n 1520 (d .0); fits = leb-true n room (d .1) }
+    let d = and-true (leb n 1520) (leb n out-len) (b .1) in
+    record { one = a .0; options = b .0; short = leb-true n 1520 (d .0); fits = leb-true n out-len (d .1) }
 
 -- a Fast Open option that has some bytes of cookie has a cookie's length of them
 pub allowed-cookie : (n : ℕ) → optionAllowed true (suc n) ≡ true → isCookieLength (suc n) ≡ true
@@ -93,27 +93,27 @@ is-allowed mss fast cookie m e z = go (optionAllowed fast (length cookie)) refl 
     go false q k = absurd (z k)
 
 -- the same of a segment's length: 0 that it cannot be written, any other that it can
-pub refused : (src dst : List ℕ) (f : Outgoing) (cookie payload : List ℕ) (room n : ℕ)
-    → n ≡ cond (canWrite src dst f cookie payload room) (lengthFor f cookie payload) 0 → n ≡ 0 → canWrite src dst f cookie payload room ≡ false
-refused src dst f cookie payload room n e z = go (canWrite src dst f cookie payload room) (sym e ∙ z)
+pub refused : (src dst : List ℕ) (f : Outgoing) (cookie payload : List ℕ) (out-len n : ℕ)
+    → n ≡ cond (canWrite src dst f cookie payload out-len) (lengthFor f cookie payload) 0 → n ≡ 0 → canWrite src dst f cookie payload out-len ≡ false
+refused src dst f cookie payload out-len n e z = go (canWrite src dst f cookie payload out-len) (sym e ∙ z)
   where
     go : (b : Bool) → cond b (lengthFor f cookie payload) 0 ≡ 0 → b ≡ false
     go true q = absurd (omega arith)
     go false q = refl
 
-pub record Allowed (src dst : List ℕ) (f : Outgoing) (cookie payload : List ℕ) (room n : ℕ) : Type 0 where
-  pub can : canWrite src dst f cookie payload room ≡ true
-  pub facts : Writable src dst f cookie payload room
+pub record Allowed (src dst : List ℕ) (f : Outgoing) (cookie payload : List ℕ) (out-len n : ℕ) : Type 0 where
+  pub can : canWrite src dst f cookie payload out-len ≡ true
+  pub facts : Writable src dst f cookie payload out-len
   pub area : length (optionsFor f cookie) ≤ 24
   pub whole : n ≡ lengthFor f cookie payload
 
-pub allowed : (src dst : List ℕ) (f : Outgoing) (cookie payload : List ℕ) (room n : ℕ)
-    → n ≡ cond (canWrite src dst f cookie payload room) (lengthFor f cookie payload) 0 → (n ≡ 0 → ⊥) → Allowed src dst f cookie payload room n
-allowed src dst f cookie payload room n e z = go (canWrite src dst f cookie payload room) refl e
+pub allowed : (src dst : List ℕ) (f : Outgoing) (cookie payload : List ℕ) (out-len n : ℕ)
+    → n ≡ cond (canWrite src dst f cookie payload out-len) (lengthFor f cookie payload) 0 → (n ≡ 0 → ⊥) → Allowed src dst f cookie payload out-len n
+allowed src dst f cookie payload out-len n e z = go (canWrite src dst f cookie payload out-len) refl e
   where
-    go : (b : Bool) → canWrite src dst f cookie payload room ≡ b → n ≡ cond b (lengthFor f cookie payload) 0 → Allowed src dst f cookie payload room n
+    go : (b : Bool) → canWrite src dst f cookie payload out-len ≡ b → n ≡ cond b (lengthFor f cookie payload) 0 → Allowed src dst f cookie payload out-len n
     go true q k =
-        let w = writable src dst f cookie payload room q in
+        let w = writable src dst f cookie payload out-len q in
         record { can = q; facts = w; area = options-most (f .mss) (f .fast) cookie (w .options); whole = k }
     go false q k = absurd (z k)
 

@@ -7,12 +7,12 @@ use lib.ListN.{length}
 use Rattle.segment.specs.Bytes.{word}
 use Rattle.segment.specs.Options.{readOptions, cookieBytes}
 use Rattle.segment.specs.declared.options.Mss.the-variants.{NotGiven, Given}
-use Rattle.segment.specs.declared.options.FastOpen.{FastOpen}
-use Rattle.segment.specs.declared.options.FastOpen.the-variants.{Absent, Cookie}
+use Rattle.segment.specs.declared.options.FastOpenOption.{FastOpenOption}
+use Rattle.segment.specs.declared.options.FastOpenOption.the-variants.{Absent, Cookie}
 use Rattle.segment.specs.declared.options.Options.{Options}
 
 -- nothing but a Fast Open option
-abbrev pub onlyFastOpen : FastOpen → Options
+abbrev pub onlyFastOpen : FastOpenOption → Options
 onlyFastOpen f = record { mss = NotGiven; fast = f }
 
 -- nothing but an MSS

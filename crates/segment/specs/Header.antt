@@ -80,5 +80,5 @@ kindOf flags =
     (cond (has flags RST) Rst (cond (has flags ACK) Ack Other))
 
 -- what a client takes for an answer: SYN and ACK, no RST or FIN
-unfoldable pub synAck : ℕ → Bool
-synAck flags = has flags SYN && (has flags ACK && not (has flags RST || has flags FIN))
+unfoldable pub isSynAck : ℕ → Bool
+isSynAck flags = has flags SYN && (has flags ACK && not (has flags RST || has flags FIN))

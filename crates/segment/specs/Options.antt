@@ -9,8 +9,8 @@ use Rattle.segment.specs.Bytes.{byteAt, wordAt}
 use Rattle.segment.specs.Header.{optionArea, has, SYN}
 use Rattle.segment.specs.declared.options.Mss.{Mss}
 use Rattle.segment.specs.declared.options.Mss.the-variants.{NotGiven, Given}
-use Rattle.segment.specs.declared.options.FastOpen.{FastOpen}
-use Rattle.segment.specs.declared.options.FastOpen.the-variants.{Absent, Request, Cookie}
+use Rattle.segment.specs.declared.options.FastOpenOption.{FastOpenOption}
+use Rattle.segment.specs.declared.options.FastOpenOption.the-variants.{Absent, Request, Cookie}
 use Rattle.segment.specs.declared.options.Options.{Options}
 
 -- kind 2 counts with length 4
@@ -22,11 +22,11 @@ unfoldable pub isCookieLength : ℕ → Bool
 isCookieLength n = leb 4 n && (leb n 16 && eqb (n % 2) 0)
 
 -- an option with n bytes of cookie at a place: an empty cookie asks for one, and with any other length the option is skipped
-unfoldable pub cookieAt : ℕ → ℕ → FastOpen
+unfoldable pub cookieAt : ℕ → ℕ → FastOpenOption
 cookieAt at n = cond (eqb n 0) Request (cond (isCookieLength n) (Cookie at n) Absent)
 
 -- kind 34, of at least 2 bytes, has its cookie after two of them: it counts with length 2, or an even length of 6 to 18
-unfoldable pub fastOpenOption : List ℕ → ℕ → ℕ → FastOpen
+unfoldable pub fastOpenOption : List ℕ → ℕ → ℕ → FastOpenOption
 fastOpenOption area i len = cond (eqb (byteAt area i) 34) (cookieAt (i + 2) (len - 2)) Absent
 
 -- of several that count the first is used
@@ -34,7 +34,7 @@ abbrev pub firstMss : Mss → Mss → Mss
 firstMss NotGiven next = next
 firstMss (Given v) next = Given v
 
-abbrev pub firstFastOpen : FastOpen → FastOpen → FastOpen
+abbrev pub firstFastOpen : FastOpenOption → FastOpenOption → FastOpenOption
 firstFastOpen Absent next = next
 firstFastOpen Request next = Request
 firstFastOpen (Cookie at len) next = Cookie at len
@@ -51,8 +51,8 @@ withOption found area i len =
     }
 
 -- One step, at a kind byte: kind 0 ends the list, kind 1 is one byte, and any other kind has a length of at least 2 that fits the bytes left, or the reading ends.
-abbrev pub step : ℕ → ℕ → ℕ → Options → Options → Options → Options
-step kind len left end one on =
+abbrev pub byKind : ℕ → ℕ → ℕ → Options → Options → Options → Options
+byKind kind len left end one on =
     cond (eqb kind 0) end (cond (eqb kind 1) one (cond (leb 2 len && leb len left) on end))
 
 -- Reading the area from place i on, where `rest` stands. `skip` bytes of it belong to the option before.
@@ -60,7 +60,7 @@ unfoldable pub readFrom : List ℕ → ℕ → ℕ → List ℕ → Options → 
 readFrom area i skip [] found = found
 readFrom area i (suc skip) (b ∷ rest) found = readFrom area (i + 1) skip rest found
 readFrom area i zero (kind ∷ rest) found =
-    step kind (byteAt rest 0) (length rest + 1) found
+    byKind kind (byteAt rest 0) (length rest + 1) found
     (readFrom area (i + 1) 0 rest found)
     (readFrom area (i + 1) (byteAt rest 0 - 1) rest (withOption found area i (byteAt rest 0)))
 
@@ -77,7 +77,7 @@ unfoldable pub optionsOf : List ℕ → Options
 optionsOf seg = ifSyn (has (byteAt seg 13) SYN) (readOptions (optionArea seg))
 
 -- the bytes of a cookie that was found in an area; none of a request
-abbrev pub cookieBytes : FastOpen → List ℕ → List ℕ
+abbrev pub cookieBytes : FastOpenOption → List ℕ → List ℕ
 cookieBytes Absent area = []
 cookieBytes Request area = []
 cookieBytes (Cookie at len) area = take len (drop at area)

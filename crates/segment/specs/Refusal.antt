@@ -53,6 +53,6 @@ abbrev pub refusal : Checks → Check
 refusal cs = firstOf order cs
 
 -- the number answered; 0 is done
-abbrev pub answered : Check → ℕ
-answered Clear = 0
-answered (Refused r) = numberOf r
+abbrev pub checkNumber : Check → ℕ
+checkNumber Clear = 0
+checkNumber (Refused r) = numberOf r

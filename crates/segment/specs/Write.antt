@@ -11,7 +11,7 @@ use Rattle.segment.specs.Options.{isCookieLength}
 use Rattle.segment.specs.Checksum.{complement, oneFamily, segmentSum}
 use Rattle.segment.specs.Sequence.{nextAfter}
 use Rattle.segment.specs.declared.write.Outgoing.{Outgoing}
-use Rattle.segment.specs.declared.write.Answer.{Answer}
+use Rattle.segment.specs.declared.write.SynAck.{SynAck}
 use Rattle.segment.specs.declared.write.Opening.{Opening}
 
 -- kind 2, length 4 and the maximum segment size
@@ -64,19 +64,19 @@ lengthFor f cookie payload = 20 + length (optionsFor f cookie) + length payload
 -- A segment is written where its addresses are of one family, it may have its options, it has no more than the 1,520 bytes that are
 -- read, and the output has room for it.
 unfoldable pub canWrite : List ℕ → List ℕ → Outgoing → List ℕ → List ℕ → ℕ → Bool
-canWrite src dst f cookie payload room =
+canWrite src dst f cookie payload out-len =
     oneFamily src dst
     && (optionAllowed (f .fast) (length cookie)
-    && (leb (lengthFor f cookie payload) 1520 && leb (lengthFor f cookie payload) room))
+    && (leb (lengthFor f cookie payload) 1520 && leb (lengthFor f cookie payload) out-len))
 
 -- the bytes that are written to an output with so much room; none where the segment is not written
 unfoldable pub written : List ℕ → List ℕ → Outgoing → List ℕ → List ℕ → ℕ → List ℕ
-written src dst f cookie payload room =
-    cond (canWrite src dst f cookie payload room) (segmentBytes src dst f (optionsFor f cookie) payload) []
+written src dst f cookie payload out-len =
+    cond (canWrite src dst f cookie payload out-len) (segmentBytes src dst f (optionsFor f cookie) payload) []
 
 -- "Answer": SYN and ACK, our initial number, their number + 1 + accepted, and a cookie if it is fresh
-abbrev pub answerFields : Answer → Outgoing
-answerFields a =
+abbrev pub synAckFields : SynAck → Outgoing
+synAckFields a =
     record {
       source = a .source;
       dest = a .dest;
@@ -87,13 +87,13 @@ answerFields a =
       fast = a .fresh;
     }
 
-unfoldable pub answerBytes : List ℕ → List ℕ → Answer → List ℕ → ℕ → List ℕ
-answerBytes src dst a cookie room = written src dst (answerFields a) cookie [] room
+unfoldable pub synAckBytes : List ℕ → List ℕ → SynAck → List ℕ → ℕ → List ℕ
+synAckBytes src dst a cookie out-len = written src dst (synAckFields a) cookie [] out-len
 
 -- how many bytes it has where it is written: 36 with a fresh cookie of 8, 24 without
-abbrev pub answerLength : Bool → ℕ
-answerLength false = 24
-answerLength true = 36
+abbrev pub synAckLength : Bool → ℕ
+synAckLength false = 24
+synAckLength true = 36
 
 -- "Client": SYN, our initial number, acknowledgement 0, and a Fast Open option if there is to be one
 abbrev pub openingFields : Opening → Outgoing
@@ -109,4 +109,4 @@ openingFields o =
     }
 
 unfoldable pub openingBytes : List ℕ → List ℕ → Opening → List ℕ → List ℕ → ℕ → List ℕ
-openingBytes src dst o cookie payload room = written src dst (openingFields o) cookie payload room
+openingBytes src dst o cookie payload out-len = written src dst (openingFields o) cookie payload out-len

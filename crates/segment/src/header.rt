@@ -5,7 +5,7 @@ ghost use mathlib.Core.Path.{_≡_};
 ghost use Prim.Native.Nat.{_≤_};
 ghost use lib.ListN.{length};
 ghost use Rattle.segment.specs.Bytes.{byteAt};
-ghost use Rattle.segment.specs.Header.{headerLength, malformed, fieldsOf, shapeOf, optionArea, payloadOf, SYN, has, kindOf, synAck};
+ghost use Rattle.segment.specs.Header.{headerLength, malformed, fieldsOf, shapeOf, optionArea, payloadOf, SYN, has, kindOf, isSynAck};
 
 // The fields of a header that are used. The offset is its length in 32-bit words.
 pub struct Header {
@@ -157,7 +157,7 @@ pub fn kind_of(flags: u8) -> Kind
 
 // Whether the flags are those of an answer to an opening.
 pub fn is_syn_ack(flags: u8) -> bool
-    ensures { λ r. ⌜ r ≡ synAck flags ⌝ }
+    ensures { λ r. ⌜ r ≡ isSynAck flags ⌝ }
 {
     if !has_bit(flags, SYN) {
         return false;

@@ -14,7 +14,7 @@ pub enum Mss {
 }
 
 // The Fast Open option: none, an empty one that asks for a cookie, or a cookie by its place in the area.
-pub enum FastOpen {
+pub enum FastOpenOption {
     Absent,
     Request,
     Cookie { at: usize, len: usize },
@@ -23,7 +23,7 @@ pub enum FastOpen {
 // The options that count, the first of each kind.
 pub struct Options {
     pub mss: Mss,
-    pub fast: FastOpen,
+    pub fast: FastOpenOption,
 }
 
 // The first of two, if it was given.
@@ -36,13 +36,13 @@ pub fn first_mss(found: Mss, next: Mss) -> Mss
     }
 }
 
-fn first_fast_open(found: FastOpen, next: FastOpen) -> FastOpen
+fn first_fast_open(found: FastOpenOption, next: FastOpenOption) -> FastOpenOption
     ensures { λ r. ⌜ r ≡ firstFastOpen found next ⌝ }
 {
     match found {
-        FastOpen::Absent => next,
-        FastOpen::Request => FastOpen::Request,
-        FastOpen::Cookie { at, len } => FastOpen::Cookie { at, len },
+        FastOpenOption::Absent => next,
+        FastOpenOption::Request => FastOpenOption::Request,
+        FastOpenOption::Cookie { at, len } => FastOpenOption::Cookie { at, len },
     }
 }
 
@@ -71,20 +71,20 @@ pub fn is_cookie_length(n: usize) -> bool
     n % 2 == 0
 }
 
-fn fast_open_option(area: &[u8], i: usize, len: usize) -> FastOpen
+fn fast_open_option(area: &[u8], i: usize, len: usize) -> FastOpenOption
     requires { ⌜ (2 ≤ len) × (i + len ≤ length (now area)) ⌝ }
     ensures { λ r. ⌜ r ≡ fastOpenOption (now (area .entry)) i len ⌝ }
 {
     if area[i] == 34 {
         let n = len - 2;
         if n == 0 {
-            return FastOpen::Request;
+            return FastOpenOption::Request;
         }
         if is_cookie_length(n) {
-            return FastOpen::Cookie { at: i + 2, len: n };
+            return FastOpenOption::Cookie { at: i + 2, len: n };
         }
     }
-    FastOpen::Absent
+    FastOpenOption::Absent
 }
 
 // What is found so far, with the option of `len` bytes at `i`.
@@ -107,7 +107,7 @@ pub fn read_options(area: &[u8]) -> Options
     let n = area.len();
     let mut found = Options {
         mss: Mss::NotGiven,
-        fast: FastOpen::Absent,
+        fast: FastOpenOption::Absent,
     };
     let mut i = 0;
     while i < n {
@@ -147,18 +147,18 @@ pub fn segment_options(seg: &[u8]) -> Options
     let mss = found.mss;
     Options {
         mss,
-        fast: FastOpen::Absent,
+        fast: FastOpenOption::Absent,
     }
 }
 
 // The bytes of the cookie that was found in this area, as a part of it; empty where none was.
-pub fn cookie(area: &[u8], fast: FastOpen) -> &[u8]
+pub fn cookie(area: &[u8], fast: FastOpenOption) -> &[u8]
     ensures { λ r. ⌜ now r ≡ cookieBytes fast (now (area .entry)) ⌝ }
 {
     match fast {
-        FastOpen::Cookie { at, len } => part(area, at, len),
-        FastOpen::Request => &area[..0],
-        FastOpen::Absent => &area[..0],
+        FastOpenOption::Cookie { at, len } => part(area, at, len),
+        FastOpenOption::Request => &area[..0],
+        FastOpenOption::Absent => &area[..0],
     }
 }
 

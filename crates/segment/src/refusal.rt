@@ -1,6 +1,6 @@
 // The refusals that listener and client share. In which order they are looked for is in specs/Refusal.antt.
 ghost use mathlib.Core.Path.{_≡_};
-ghost use Rattle.segment.specs.Refusal.{numberOf, answered};
+ghost use Rattle.segment.specs.Refusal.{numberOf, checkNumber};
 
 // Why a call is refused. When each is given is document 01's table, "Numbers returned".
 pub enum Refusal {
@@ -48,7 +48,7 @@ pub fn number(why: Refusal) -> u8
 
 // The number that a call answers: 0 where it is done.
 pub fn answer_number(c: Check) -> u8
-    ensures { λ r. ⌜ r ≡ answered c ⌝ }
+    ensures { λ r. ⌜ r ≡ checkNumber c ⌝ }
 {
     match c {
         Check::Clear => 0,

@@ -16,7 +16,7 @@ ghost use mathlib.Core.List.{_++_};
 ghost use Prim.Native.Nat.{_+_, _-_, _≤_, _<_};
 ghost use lib.ListN.{length, take, drop, replicate};
 ghost use Rattle.segment.specs.Checksum.{onesSum, complement, oneFamily, pseudoHeader};
-ghost use Rattle.segment.specs.Write.{padding, optionBytes, headerBytes, optionsFor, lengthFor, optionAllowed, canWrite, written, answerBytes, openingBytes};
+ghost use Rattle.segment.specs.Write.{padding, optionBytes, headerBytes, optionsFor, lengthFor, optionAllowed, canWrite, written, synAckBytes, openingBytes};
 ghost use Rattle.lists.specs.Bytes.{overwrite};
 
 // What a segment is to say, besides its cookie and its data. `fast`: with a Fast Open option.
@@ -31,7 +31,7 @@ pub(crate) struct Outgoing {
 }
 
 // An answer: both initial numbers, how many bytes of data were accepted, and whether a fresh cookie goes with it.
-pub struct Answer {
+pub struct SynAck {
     pub source: u16,
     pub dest: u16,
     pub iss: u32,
@@ -167,9 +167,9 @@ fn writable_length(
     f: Outgoing,
     cookie: &[u8],
     payload: &[u8],
-    room: usize,
+    out_len: usize,
 ) -> usize
-    ensures { λ r. ⌜ r ≡ cond (canWrite (now (src .entry)) (now (dst .entry)) f (now (cookie .entry)) (now (payload .entry)) room) (lengthFor f (now (cookie .entry)) (now (payload .entry))) 0 ⌝ }
+    ensures { λ r. ⌜ r ≡ cond (canWrite (now (src .entry)) (now (dst .entry)) f (now (cookie .entry)) (now (payload .entry)) «out_len») (lengthFor f (now (cookie .entry)) (now (payload .entry))) 0 ⌝ }
 {
     if !is_one_family(src, dst) {
         return 0;
@@ -182,7 +182,7 @@ fn writable_length(
         return 0;
     }
     let n = 20 + m + payload.len();
-    if room < n {
+    if out_len < n {
         return 0;
     }
     n
@@ -210,9 +210,9 @@ fn write_segment(
 }
 
 // Writes the answer to an opening: 24 bytes, or 36 with a fresh cookie; none, and answers 0, where it cannot be written.
-pub fn write_answer(out: &mut [u8], src: &[u8], dst: &[u8], a: Answer, cookie: [u8; 8]) -> usize
-    ensures { λ r. ⌜ r ≡ length (answerBytes (now (src .entry)) (now (dst .entry)) a cookie (length (now (out .entry)))) ⌝ }
-    ensures { λ _. ⌜ now (out .exit) ≡ overwrite (answerBytes (now (src .entry)) (now (dst .entry)) a cookie (length (now (out .entry)))) (now (out .entry)) ⌝ }
+pub fn write_syn_ack(out: &mut [u8], src: &[u8], dst: &[u8], a: SynAck, cookie: [u8; 8]) -> usize
+    ensures { λ r. ⌜ r ≡ length (synAckBytes (now (src .entry)) (now (dst .entry)) a cookie (length (now (out .entry)))) ⌝ }
+    ensures { λ _. ⌜ now (out .exit) ≡ overwrite (synAckBytes (now (src .entry)) (now (dst .entry)) a cookie (length (now (out .entry)))) (now (out .entry)) ⌝ }
 {
     let f = Outgoing {
         source: a.source,

@@ -1,2 +1,2 @@
 -- What the functions' proofs cite.
-pub mod Scanning
+pub mod ScanOf

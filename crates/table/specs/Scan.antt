@@ -16,20 +16,20 @@ firstPlace found i here = cond (ltb found 64) found (cond here i found)
 abbrev pub countIf : ℕ → Bool → ℕ
 countIf n here = cond here ((n + 1) % 2 ^ 32) n
 
-unfoldable pub seenWith : Scan → ℕ → ℕ → List ℕ → ℕ → Slot → Scan
-seenWith seen i t b port s =
+unfoldable pub scanWith : Scan → ℕ → ℕ → List ℕ → ℕ → Slot → Scan
+scanWith scan i t b port s =
     record {
-      place = firstPlace (seen .place) i (holdsPeer t b port s);
-      free = firstPlace (seen .free) i (not (isLive t (s .status)));
-      pending = countIf (seen .pending) (isPending t (s .status));
+      place = firstPlace (scan .place) i (holdsPeer t b port s);
+      free = firstPlace (scan .free) i (not (isLive t (s .status)));
+      pending = countIf (scan .pending) (isPending t (s .status));
     }
 
-abbrev pub nothingSeen : Scan
-nothingSeen = record { place = 64; free = 64; pending = 0 }
+abbrev pub emptyScan : Scan
+emptyScan = record { place = 64; free = 64; pending = 0 }
 
 -- the peer's slot: read at a place in the table, and the free one where the place is past it
-abbrev pub withinTable : ℕ → ℕ
-withinTable i = cond (ltb i 64) i 0
+abbrev pub indexInTable : ℕ → ℕ
+indexInTable i = cond (ltb i 64) i 0
 
 abbrev pub slotFound : ℕ → Slot → Slot
 slotFound i s = cond (ltb i 64) s freeSlot

@@ -9,7 +9,7 @@ use std::num::wrapping_add_u32;
 ghost use mathlib.Core.Path.{_≡_};
 ghost use Prim.Native.Nat.{_<_};
 ghost use Rattle.protocol.specs.Table.{holdsPeer};
-ghost use Rattle.table.specs.Scan.{firstPlace, countIf, seenWith, nothingSeen, withinTable, slotFound};
+ghost use Rattle.table.specs.Scan.{firstPlace, countIf, scanWith, emptyScan, indexInTable, slotFound};
 
 // Whether the slot holds a connection of this name at the time.
 fn is_named(time: u64, b: [u8; 16], port: u16, s: Slot) -> bool
@@ -41,20 +41,20 @@ pub fn count_if(n: u32, here: bool) -> u32
 }
 
 // The scan goes on by one slot. Its loop stands in each call.
-pub fn look(seen: Scan, i: usize, time: u64, b: [u8; 16], port: u16, s: Slot) -> Scan
-    ensures { λ r. ⌜ r ≡ seenWith seen i time b port s ⌝ }
+pub fn scan_slot(scan: Scan, i: usize, time: u64, b: [u8; 16], port: u16, s: Slot) -> Scan
+    ensures { λ r. ⌜ r ≡ scanWith scan i time b port s ⌝ }
 {
     let status = s.status;
     Scan {
-        place: first_place(seen.place, i, is_named(time, b, port, s)),
-        free: first_place(seen.free, i, !is_live(time, status)),
-        pending: count_if(seen.pending, is_pending(time, status)),
+        place: first_place(scan.place, i, is_named(time, b, port, s)),
+        free: first_place(scan.free, i, !is_live(time, status)),
+        pending: count_if(scan.pending, is_pending(time, status)),
     }
 }
 
 // What is known before the first slot.
-pub fn nothing_seen() -> Scan
-    ensures { λ r. ⌜ r ≡ nothingSeen ⌝ }
+pub fn empty_scan() -> Scan
+    ensures { λ r. ⌜ r ≡ emptyScan ⌝ }
 {
     Scan {
         place: 64,
@@ -64,8 +64,8 @@ pub fn nothing_seen() -> Scan
 }
 
 // A place that can be read: this one, or place 0 where it is past the table.
-pub fn within(i: usize) -> usize
-    ensures { λ r. ⌜ (r ≡ withinTable i) × (r < 64) ⌝ }
+pub fn index_in_table(i: usize) -> usize
+    ensures { λ r. ⌜ (r ≡ indexInTable i) × (r < 64) ⌝ }
 {
     if i < 64 { i } else { 0 }
 }

@@ -10,7 +10,7 @@ pub fn is_live(time: u64, s: Status) -> bool
     match s {
         Status::Free => false,
         Status::SynReceived => true,
-        Status::FastOpen(_) => true,
+        Status::SynReceivedEarly(_) => true,
         Status::ResetHeld(until) => time < until,
         Status::Established => true,
     }
@@ -22,7 +22,7 @@ pub fn is_pending(time: u64, s: Status) -> bool
     match s {
         Status::Free => false,
         Status::SynReceived => false,
-        Status::FastOpen(_) => true,
+        Status::SynReceivedEarly(_) => true,
         Status::ResetHeld(end) => time < end,
         Status::Established => false,
     }
@@ -34,7 +34,7 @@ pub fn is_waiting(s: Status) -> bool
     match s {
         Status::Free => false,
         Status::SynReceived => true,
-        Status::FastOpen(_) => true,
+        Status::SynReceivedEarly(_) => true,
         Status::ResetHeld(_) => false,
         Status::Established => false,
     }
@@ -46,7 +46,7 @@ pub fn is_established(s: Status) -> bool
     match s {
         Status::Free => false,
         Status::SynReceived => false,
-        Status::FastOpen(_) => false,
+        Status::SynReceivedEarly(_) => false,
         Status::ResetHeld(_) => false,
         Status::Established => true,
     }
@@ -58,7 +58,7 @@ pub fn is_free(s: Status) -> bool
     match s {
         Status::Free => true,
         Status::SynReceived => false,
-        Status::FastOpen(_) => false,
+        Status::SynReceivedEarly(_) => false,
         Status::ResetHeld(_) => false,
         Status::Established => false,
     }
@@ -71,7 +71,7 @@ pub fn accepted_with(s: Status) -> u32
     match s {
         Status::Free => 0,
         Status::SynReceived => 0,
-        Status::FastOpen(n) => n,
+        Status::SynReceivedEarly(n) => n,
         Status::ResetHeld(_) => 0,
         Status::Established => 0,
     }
@@ -84,7 +84,7 @@ pub fn after_reset(end: u64, s: Status) -> Status
     match s {
         Status::Free => Status::Free,
         Status::SynReceived => Status::Free,
-        Status::FastOpen(_) => Status::ResetHeld(end),
+        Status::SynReceivedEarly(_) => Status::ResetHeld(end),
         Status::ResetHeld(e) => Status::ResetHeld(e),
         Status::Established => Status::Established,
     }

@@ -1,5 +1,5 @@
 -- For the crates above: Puts (puts that follow one another are one put) and Lines (a step through the input goes on). RoundTrips: what is put is read again; Examples: computed by
--- the definitions. The others carry these and the functions' proofs: Words, Numbers and Pairs (one turn of each reader);
+-- the definitions. The others carry these and the functions' proofs: Words, Numbers and PairBytes (one turn of each reader);
 -- Digits (numbers and byte strings as text).
 pub mod Puts
 pub mod Lines
@@ -7,5 +7,5 @@ pub mod RoundTrips
 pub mod Examples
 pub mod Words
 pub mod Numbers
-pub mod Pairs
+pub mod PairBytes
 pub mod Digits

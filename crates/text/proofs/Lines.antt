@@ -40,8 +40,8 @@ module _ (n from : ℕ) (input left : List ℕ) (size all : ℕ) (l : left ≡ d
       rw t (cc feed)
 
   -- the place after the line feed lies in the input
-  pub within : size < length left → from + size + 1 ≤ length input
-  within h = omega (arith, length-drop from input, rw l at h)
+  pub in-input : size < length left → from + size + 1 ≤ length input
+  in-input h = omega (arith, length-drop from input, rw l at h)
 
 -- ---- for the crates above: a step goes on, and no further than the input
 

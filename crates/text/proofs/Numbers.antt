@@ -51,27 +51,27 @@ module _ (n : ℕ) (s : List ℕ) (i : ℕ) where
 -- The whole word
 
 module _ (s : List ℕ) (most : ℕ) where
-  answer : Bool → Bool → Bool → Number
-  answer some digits small = cond ((some && digits) && small) (Value (valueFrom 0 s)) Bad
+  tested-number : Bool → Bool → Bool → Number
+  tested-number some digits small = cond ((some && digits) && small) (Value (valueFrom 0 s)) Bad
 
-  tested : (some digits small : Bool) → ltb 0 (length s) ≡ some → every isDigit s ≡ digits → leb (valueFrom 0 s) most ≡ small → numberIn s most ≡ answer some digits small
-  unfolding numberIn answer
+  tested : (some digits small : Bool) → ltb 0 (length s) ≡ some → every isDigit s ≡ digits → leb (valueFrom 0 s) most ≡ small → numberIn s most ≡ tested-number some digits small
+  unfolding numberIn tested-number
   tested some digits small p q r = rw (p, q, r)
 
   pub number-empty : length s ≡ 0 → Bad ≡ numberIn s most
-  unfolding answer
+  unfolding tested-number
   number-empty h = sym (tested false _ _ (le-ltb 0 (length s) (omega arith)) refl refl)
 
   pub number-other : false ≡ every isDigit s → Bad ≡ numberIn s most
-  unfolding answer
+  unfolding tested-number
   number-other h = sym (tested _ false _ refl (sym h) refl ∙ go (ltb 0 (length s)) _)
     where
-      go : (t u : Bool) → answer t false u ≡ Bad
+      go : (t u : Bool) → tested-number t false u ≡ Bad
       go true u = refl
       go false u = refl
 
   pub number-large : most < valueFrom 0 s → Bad ≡ numberIn s most
-  unfolding answer
+  unfolding tested-number
   number-large h = sym (tested _ _ false refl refl (lt-leb _ _ h) ∙ go (ltb 0 (length s) && every isDigit s))
     where
       go : (t : Bool) → cond (t && false) (Value (valueFrom 0 s)) Bad ≡ Bad
@@ -79,7 +79,7 @@ module _ (s : List ℕ) (most : ℕ) where
       go false = refl
 
   pub number-read : 0 < length s → true ≡ every isDigit s → valueFrom 0 s ≤ most → Value (valueFrom 0 s) ≡ numberIn s most
-  unfolding answer
+  unfolding tested-number
   number-read h d k = sym (tested true true true (lt-ltb _ _ h) (sym d) (le-leb _ _ k))
 
 -- a number that was read is at most what was asked

@@ -39,9 +39,9 @@ module _ (at : ℕ) (s out : List ℕ) where
 
 -- ---- puts that follow one another
 
-pub place-place : (at m n room : ℕ) → placeAfter (placeAfter at m room) n room ≡ placeAfter at (m + n) room
+pub place-place : (at m n out-len : ℕ) → placeAfter (placeAfter at m out-len) n out-len ≡ placeAfter at (m + n) out-len
 unfolding placeAfter
-place-place at m n room = omega arith
+place-place at m n out-len = omega arith
 
 -- what has room of two texts
 take-two : (s w : List ℕ) (m : ℕ) (t : Bool) → leb (length s) m ≡ t
@@ -59,8 +59,8 @@ take-two s w m false e =
     rw (b, a, z, append-nil, take-append-le m s w (omega arith))
 
 -- the room that the first of two texts leaves
-room-left : (at m n room : ℕ) → min n (room - at - min m (room - at)) ≡ fitting (at + min m (room - at)) n room
-room-left at m n room = omega arith
+left-after : (at m n out-len : ℕ) → min n (out-len - at - min m (out-len - at)) ≡ fitting (at + min m (out-len - at)) n out-len
+left-after at m n out-len = omega arith
 
 laid-laid-by : (at : ℕ) (s w out : List ℕ) (t : Bool) → leb at (length out) ≡ t
     → laid (placeAfter at (length s) (length out)) w (laid at s out) ≡ laid at (s ++ w) out
@@ -78,7 +78,7 @@ laid-laid-by at s w out true e =
     sym (drop-drop k (at + j) first) ∙ ap (drop k) (drop-paste out at s j h (omega arith)) ∙ drop-drop k (at + j) out in
     let n : at + j + k ≡ at + q = omega arith in
     ap (laid (at + j) w) (laid-as at s out j refl)
-    ∙ laid-as (at + j) w first k (room-left at (length s) (length w) (length out) ∙ ap (fitting (at + j) (length w)) (sym l))
+    ∙ laid-as (at + j) w first k (left-after at (length s) (length w) (length out) ∙ ap (fitting (at + j) (length w)) (sym l))
     ∙ rw (t, d, append-assoc (take at out), take-two s w m (leb (length s) m) refl, n)
     (sym (laid-as at (s ++ w) out q (omega (arith, length-append s w))))
 laid-laid-by at s w out false e =

@@ -19,7 +19,7 @@ use Rattle.text.specs.Number.{isDigit, valueFrom, numberIn, digitsOf, de
 use Rattle.text.specs.ByteString.{isDash, nibble, isHexDigit, pairBytes, hexDigit, hexOf, hexWord}
 use Rattle.text.proofs.Words.{no-word}
 use Rattle.text.proofs.Numbers.{number-read}
-use Rattle.text.proofs.Pairs.{Answered, and-not, hex-all, read-dash, read-pairs}
+use Rattle.text.proofs.PairBytes.{ReadAs, and-not, hex-all, read-dash, read-pairs}
 
 -- Numbers
 
@@ -38,10 +38,10 @@ is-digit-of : (d : ℕ) → d < 10 → every isDigit ((48 + d) ∷ []) ≡ true
 is-digit-of d h = simp (le-leb 48 (48 + d) (omega arith), le-leb (48 + d) 57 (omega arith))
 
 -- k digits say every number below 10^k
-digits-say : (k n : ℕ) → n < 10 ^ k → valueFrom 0 (digitsOf k n) ≡ n
+digits-value : (k n : ℕ) → n < 10 ^ k → valueFrom 0 (digitsOf k n) ≡ n
 unfolding digitsOf valueFrom
-digits-say zero n h = omega arith
-digits-say (suc k) n h = go (ltb n 10) refl (digits-say k (n / 10) (omega (arith, rw pow-suc at h)))
+digits-value zero n h = omega arith
+digits-value (suc k) n h = go (ltb n 10) refl (digits-value k (n / 10) (omega (arith, rw pow-suc at h)))
   where
     go : (t : Bool) → ltb n 10 ≡ t → valueFrom 0 (digitsOf k (n / 10)) ≡ n / 10 →
         valueFrom 0 (cond t ((48 + n) ∷ []) (digitsOf k (n / 10) ++ ((48 + n % 10) ∷ []))) ≡ n
@@ -69,7 +69,7 @@ digits-some k n = go (ltb n 10)
 pub number-again : (n most : ℕ) → n ≤ most → n < 18446744073709551616 → numberIn (decimal n) most ≡ Value n
 unfolding decimal
 number-again n most h k =
-    let v : valueFrom 0 (digitsOf 20 n) ≡ n = digits-say 20 n (omega arith) in
+    let v : valueFrom 0 (digitsOf 20 n) ≡ n = digits-value 20 n (omega arith) in
     sym (number-read (digitsOf 20 n) most (digits-some 19 n) (sym (digits-only 20 n)) (omega arith)) ∙ ap Value v
 
 -- Bytes
@@ -112,15 +112,15 @@ no-dash : (b : ℕ) (s : List ℕ) → isDash (hexOf (b ∷ s)) ≡ false
 unfolding hexOf sameBytes
 no-dash b s = and-not (eqb (hexDigit (b / 16)) 45)
 
-pub bytes-again : (s : List ℕ) (room : ℕ) → Bytes s → length s ≤ room → Answered (hexWord s) room (Count (length s)) s
+pub bytes-again : (s : List ℕ) (out-len : ℕ) → Bytes s → length s ≤ out-len → ReadAs (hexWord s) out-len (Count (length s)) s
 unfolding hexWord sameBytes
-bytes-again [] room h k = read-dash (45 ∷ []) room refl
-bytes-again (b ∷ s) room h k =
+bytes-again [] out-len h k = read-dash (45 ∷ []) out-len refl
+bytes-again (b ∷ s) out-len h k =
     let w = hexOf (b ∷ s) in
     let e = pairs-again (b ∷ s) h in
     let t = twice (b ∷ s) in
     let n : length (pairBytes w) ≡ length (b ∷ s) = ap length e in
-    let o = read-pairs w room (no-dash b s) (hex-all w (λ z. omega arith) (omega arith) (hex-only (b ∷ s) h)) (omega arith) in
+    let o = read-pairs w out-len (no-dash b s) (hex-all w (λ z. omega arith) (omega arith) (hex-only (b ∷ s) h)) (omega arith) in
     (sym (ap (λ (t : List ℕ). Count (length t)) e) ∙ o .0, sym e ∙ o .1)
 
 -- Words

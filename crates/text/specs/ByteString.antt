@@ -40,14 +40,14 @@ bytesOf s = cond (isDash s) [] (pairBytes s)
 
 -- whether a word is a byte string whose bytes have room
 unfoldable pub isReadable : List ℕ → ℕ → Bool
-isReadable s room = (isDash s || isHex s) && leb (length (bytesOf s)) room
+isReadable s out-len = (isDash s || isHex s) && leb (length (bytesOf s)) out-len
 
 -- the bytes that are read to a buffer with so much room; none where the word is bad
 unfoldable pub bytesIn : List ℕ → ℕ → List ℕ
-bytesIn s room = cond (isReadable s room) (bytesOf s) []
+bytesIn s out-len = cond (isReadable s out-len) (bytesOf s) []
 
 unfoldable pub bytesRead : List ℕ → ℕ → ByteString
-bytesRead s room = cond (isReadable s room) (Count (length (bytesOf s))) Bad
+bytesRead s out-len = cond (isReadable s out-len) (Count (length (bytesOf s))) Bad
 
 -- a digit below 16, in lower case
 abbrev pub hexDigit : ℕ → ℕ

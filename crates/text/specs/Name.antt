@@ -18,12 +18,12 @@ nameOf (Value p) BytesBad = NameBad
 nameOf (Value p) (Count n) = Known n p
 
 unfoldable pub nameIn : List ℕ → List ℕ → ℕ → Name
-nameIn address port room = nameOf (number16In port) (bytesRead address room)
+nameIn address port out-len = nameOf (number16In port) (bytesRead address out-len)
 
 -- the bytes that are read to the buffer; none where a word is bad
 abbrev pub addressOf : Number16 → List ℕ → ℕ → List ℕ
-addressOf Bad address room = []
-addressOf (Value p) address room = bytesIn address room
+addressOf Bad address out-len = []
+addressOf (Value p) address out-len = bytesIn address out-len
 
 unfoldable pub addressIn : List ℕ → List ℕ → ℕ → List ℕ
-addressIn address port room = addressOf (number16In port) address room
+addressIn address port out-len = addressOf (number16In port) address out-len

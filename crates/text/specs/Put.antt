@@ -8,11 +8,11 @@ use lib.Seq.{paste}
 
 -- how many of n bytes have room from a place on, in a buffer of so many
 abbrev pub fitting : ℕ → ℕ → ℕ → ℕ
-fitting at n room = min n (room - at)
+fitting at n out-len = min n (out-len - at)
 
 -- the place after n bytes that are put at a place
 unfoldable pub placeAfter : ℕ → ℕ → ℕ → ℕ
-placeAfter at n room = at + fitting at n room
+placeAfter at n out-len = at + fitting at n out-len
 
 -- a buffer with bytes put at a place, as many as there is room for; all others are as they were
 unfoldable pub laid : ℕ → List ℕ → List ℕ → List ℕ

@@ -16,9 +16,9 @@ pub fn put(out: &mut [u8], at: usize, src: &[u8]) -> usize
     if at > out.len() {
         return at;
     }
-    let room = out.len() - at;
-    if src.len() > room {
-        bytes::copy(&src[..room], &mut out[at..]);
+    let left = out.len() - at;
+    if src.len() > left {
+        bytes::copy(&src[..left], &mut out[at..]);
         return out.len();
     }
     bytes::copy(src, &mut out[at..]);

@@ -1,14 +1,14 @@
 // Whole calls of a listener, as a program makes them: the listener goes into a call and comes back in its outcome.
 use crate::data;
 use crate::data::wide;
-use listener::answer::accepted_count;
-use listener::answer::event_number;
 use listener::calls::abandon;
 use listener::calls::close;
 use listener::calls::segment;
 use listener::calls::set_settings;
 use listener::calls::start;
-use protocol::answer::Event;
+use listener::outcome::accepted_count;
+use listener::outcome::event_number;
+use protocol::outcome::Event;
 use protocol::state::Listener;
 use protocol::state::Settings;
 use segment::sequence::next_after;
@@ -45,7 +45,7 @@ fn empty_listener() -> Listener {
     let settings = Settings {
         on: true,
         limit: 64,
-        room: 1460,
+        early_room: 1460,
         hold: 0,
         mss: 1460,
     };

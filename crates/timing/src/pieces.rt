@@ -4,7 +4,7 @@ use crate::data::wide;
 use cipher::encrypt;
 use cipher::expand_key;
 use segment::checksum::add_bytes;
-use segment::options::FastOpen;
+use segment::options::FastOpenOption;
 use segment::options::Mss;
 use segment::options::read_options;
 use std::num::wrapping_add_u64;
@@ -104,11 +104,11 @@ fn mss_part(mss: Mss) -> u64 {
     }
 }
 
-fn cookie_part(fast: FastOpen) -> u64 {
+fn cookie_part(fast: FastOpenOption) -> u64 {
     match fast {
-        FastOpen::Absent => 0,
-        FastOpen::Request => 0,
-        FastOpen::Cookie { at, len } => wrapping_add_u64(at as u64, len as u64),
+        FastOpenOption::Absent => 0,
+        FastOpenOption::Request => 0,
+        FastOpenOption::Cookie { at, len } => wrapping_add_u64(at as u64, len as u64),
     }
 }
 

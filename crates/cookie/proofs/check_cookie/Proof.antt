@@ -4,7 +4,7 @@ use mathlib.Core.Path.{_≡_, sym, _∙_}
 use mathlib.Core.Bool.{false}
 use borrow.Author.Tests.{not-true, not-false}
 use Rattle.lists.specs.Bytes.{sameBytes}
-use Rattle.cookie.proofs.Considering.{cookie-present, cookie-alone, cookie-previous}
+use Rattle.cookie.proofs.CheckOption.{cookie-present, cookie-alone, cookie-previous}
 use borrow.Author.Needs.{needs}
 use Rattle.cookie.proofs.check_cookie.Statement.{statement}
 use Rattle.cookie.proofs.check_cookie.Tie as tie

@@ -4,7 +4,7 @@ use mathlib.Core.Path.{ap, _∙_}
 use borrow.Author.Tests.{not-true, not-false}
 use Rattle.protocol.specs.Cookie.{found}
 use Rattle.cookie.specs.declared.OptionCheck.{OptionCheck}
-use Rattle.cookie.proofs.Considering.{considered-off, considered-nothing, considered-request, considered-cookie}
+use Rattle.cookie.proofs.CheckOption.{considered-off, considered-nothing, considered-request, considered-cookie}
 use borrow.Author.Needs.{needs}
 use Rattle.cookie.proofs.check_option.Statement.{statement}
 use Rattle.cookie.proofs.check_option.Tie as tie

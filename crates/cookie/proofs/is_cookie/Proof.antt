@@ -8,7 +8,7 @@ use native.Mathlib.Omega.{arith}
 use lib.ListN.{length, drop}
 use Rattle.lists.specs.Bytes.{sameBytes}
 use Rattle.lists.proofs.SameBytes.{unlike}
-use Rattle.lists.proofs.Comparing.{differ, agree, at-end}
+use Rattle.lists.proofs.CompareLoop.{differ, agree, at-end}
 use borrow.Author.Needs.{needs}
 use Rattle.cookie.proofs.is_cookie.Statement.{statement}
 use Rattle.cookie.proofs.is_cookie.Tie as tie

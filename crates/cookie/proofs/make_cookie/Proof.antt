@@ -5,7 +5,7 @@ use mathlib.Core.List.{List}
 use Prim.Native.Nat.{ℕ}
 use lib.ListN.{take}
 use borrow.Author.Needs.{needs}
-use Rattle.protocol.proofs.Cookies.{cookie-is}
+use Rattle.protocol.proofs.Cookie.{cookie-is}
 use Rattle.cookie.proofs.make_cookie.Statement.{statement}
 use Rattle.cookie.proofs.make_cookie.Tie as tie
 

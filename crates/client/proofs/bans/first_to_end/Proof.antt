@@ -7,7 +7,7 @@ use mathlib.Core.Logic.{⊎-elim}
 use native.Mathlib.Omega.{arith}
 use lib.ListN.{length, length-map}
 use Rattle.client.specs.declared.bans.Ban.{Ban}
-use Rattle.client.proofs.Earliest.{Least, least-start, least-lower, least-kept, least-end}
+use Rattle.client.proofs.EndsFirst.{Least, least-start, least-lower, least-kept, least-end}
 use borrow.Author.Needs.{needs}
 use Rattle.client.proofs.bans.first_to_end.Statement.{statement}
 use Rattle.client.proofs.bans.first_to_end.Tie as tie

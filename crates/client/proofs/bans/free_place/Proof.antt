@@ -8,8 +8,8 @@ use native.Mathlib.Omega.{arith}
 use lib.ListN.{length, length-map, getD}
 use Rattle.client.specs.Bans.{isLive}
 use Rattle.client.specs.declared.bans.Ban.{Ban}
-use Rattle.lists.proofs.Finding.{Searched, searched-start, searched-on, searched-found, searched-end}
-use Rattle.client.proofs.Parts.{ended, not-ended}
+use Rattle.lists.proofs.FirstIndex.{Searched, searched-start, searched-on, searched-found, searched-end}
+use Rattle.client.proofs.After.{ended, not-ended}
 use borrow.Author.Needs.{needs}
 use Rattle.client.proofs.bans.free_place.Statement.{statement}
 use Rattle.client.proofs.bans.free_place.Tie as tie

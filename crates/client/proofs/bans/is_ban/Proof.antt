@@ -1,7 +1,7 @@
 -- `client::bans::is_ban` meets its contract: the ban is live, and its name is compared.
 -- Assumes nothing.
 use native.Mathlib.Omega.{arith}
-use Rattle.client.proofs.Parts.{is-over, is-on}
+use Rattle.client.proofs.After.{is-over, is-on}
 use borrow.Author.Needs.{needs}
 use Rattle.client.proofs.bans.is_ban.Statement.{statement}
 use Rattle.client.proofs.bans.is_ban.Tie as tie

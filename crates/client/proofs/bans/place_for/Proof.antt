@@ -1,7 +1,7 @@
 -- `client::bans::place_for` meets its contract: one case for each place.
 -- Assumes nothing.
 use native.Mathlib.Omega.{arith}
-use Rattle.client.proofs.Parts.{own-place, lowest-place, first-place}
+use Rattle.client.proofs.After.{own-place, lowest-place, first-place}
 use borrow.Author.Needs.{needs}
 use Rattle.client.proofs.bans.place_for.Statement.{statement}
 use Rattle.client.proofs.bans.place_for.Tie as tie

@@ -1,6 +1,6 @@
 -- `client::cache::cookie_length` meets its contract: the length is a cookie's, or not.
 -- Assumes nothing.
-use Rattle.client.proofs.Parts.{cookie-kept, cookie-left}
+use Rattle.client.proofs.After.{cookie-kept, cookie-left}
 use borrow.Author.Needs.{needs}
 use Rattle.client.proofs.cache.cookie_length.Statement.{statement}
 use Rattle.client.proofs.cache.cookie_length.Tie as tie

@@ -1,7 +1,7 @@
 -- `client::cache::learned` meets its contract: with a cookie, or without.
 -- Assumes nothing.
 use Rattle.endpoint.proofs.Blocks.{kept}
-use Rattle.client.proofs.Parts.{learned-none, learned-cookie}
+use Rattle.client.proofs.After.{learned-none, learned-cookie}
 use borrow.Author.Needs.{needs}
 use Rattle.client.proofs.cache.learned.Statement.{statement}
 use Rattle.client.proofs.cache.learned.Tie as tie

@@ -5,7 +5,7 @@ use mathlib.Core.Path.{_≡_, sym, _∙_}
 use native.Mathlib.Omega.{arith}
 use lib.ListN.{length, length-map}
 use Rattle.client.specs.Cache.{isFor}
-use Rattle.lists.proofs.Finding.{Searched, searched-start, searched-on, searched-found, searched-end}
+use Rattle.lists.proofs.FirstIndex.{Searched, searched-start, searched-on, searched-found, searched-end}
 use borrow.Author.Needs.{needs}
 use Rattle.client.proofs.cache.place_of.Statement.{statement}
 use Rattle.client.proofs.cache.place_of.Tie as tie

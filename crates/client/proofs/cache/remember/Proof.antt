@@ -11,7 +11,7 @@ use Rattle.segment.specs.declared.options.Mss.the-variants.{NotGiven}
 use Rattle.client.specs.Cache.{isFor, withCache}
 use Rattle.client.specs.declared.cache.Entry.{Entry}
 use Rattle.client.specs.declared.state.Memory.{Memory}
-use Rattle.client.proofs.Shifting.{shifted, shifted-at, shifted-on, shifted-out, shifted-all}
+use Rattle.client.proofs.Remembered.{shifted, shifted-at, shifted-on, shifted-out, shifted-all}
 use borrow.Author.Needs.{needs}
 use Rattle.client.proofs.cache.remember.Statement.{statement}
 use Rattle.client.proofs.cache.remember.Tie as tie

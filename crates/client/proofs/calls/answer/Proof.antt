@@ -5,8 +5,8 @@ use Rattle.endpoint.specs.Address.{block}
 use Rattle.client.specs.Step.{cookieIn, mssIn}
 use Rattle.client.specs.declared.checks.Reply.{Reply}
 use Rattle.client.specs.declared.checks.Reply.the-variants.{Acknowledged}
-use Rattle.client.proofs.Calling.{Said, answer-refused, answer-kept, answer-time, answer-done}
-use Rattle.client.proofs.Parts.{brought-is, brought-most}
+use Rattle.client.proofs.Step.{CheckedReply, answer-refused, answer-kept, answer-time, answer-done}
+use Rattle.client.proofs.After.{brought-is, brought-most}
 use borrow.Author.Needs.{needs}
 use Rattle.client.proofs.calls.answer.Statement.{statement}
 use Rattle.client.proofs.calls.answer.Tie as tie
@@ -44,12 +44,12 @@ learnt c = c .before
 
 -- what the checks come to
 module _ (c : tie.After-check-answer) where
-  abbrev said : Reply
-  said = Said (entry c .args .m) (entry c .args .time) (entry c .args .own .now) (entry c .args .server .now) (entry c .args .a) (entry c .args .seg .now)
+  abbrev checkedReply : Reply
+  checkedReply = CheckedReply (entry c .args .m) (entry c .args .time) (entry c .args .own .now) (entry c .args .server .now) (entry c .args .a) (entry c .args .seg .now)
 
 -- it is a count
 module _ (c : tie.After-n) where
-  acknowledged : said (checked c) ≡ Acknowledged (c .n .given .0 .0)
+  acknowledged : checkedReply (checked c) ≡ Acknowledged (c .n .given .0 .0)
   acknowledged = sym (checked c .check-answer .ensures) ∙ c .n .given .1
 
 -- the server's block was made

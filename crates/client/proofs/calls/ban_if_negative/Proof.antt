@@ -1,6 +1,6 @@
 -- `client::calls::ban_if_negative` meets its contract: data was sent and none acknowledged, or not.
 -- Assumes nothing.
-use Rattle.client.proofs.Parts.{no-data, some-acknowledged, none-acknowledged}
+use Rattle.client.proofs.After.{no-data, some-acknowledged, none-acknowledged}
 use borrow.Author.Needs.{needs}
 use Rattle.client.proofs.calls.ban_if_negative.Statement.{statement}
 use Rattle.client.proofs.calls.ban_if_negative.Tie as tie

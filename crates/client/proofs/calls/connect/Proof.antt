@@ -9,8 +9,8 @@ use Rattle.segment.specs.declared.refusal.Check.{Check}
 use Rattle.segment.specs.declared.refusal.Check.the-variants.{Clear}
 use Rattle.endpoint.specs.Address.{block}
 use Rattle.client.specs.declared.cache.Entry.{Entry}
-use Rattle.client.proofs.Calling.{Open, open-refused, open-kept, open-mss, open-done}
-use Rattle.client.proofs.Parts.{cookie-most}
+use Rattle.client.proofs.Step.{Open, open-refused, open-kept, open-mss, open-done}
+use Rattle.client.proofs.After.{cookie-most}
 use borrow.Author.Needs.{needs}
 use Rattle.client.proofs.calls.connect.Statement.{statement}
 use Rattle.client.proofs.calls.connect.Tie as tie
@@ -51,13 +51,13 @@ written c = c .before .before .before
 
 -- what the checks come to
 module _ (c : tie.After-check-open) where
-  abbrev said : Check
-  said =
+  abbrev openCheck : Check
+  openCheck =
       Open (entry c .args .m) (entry c .args .time) (entry c .args .own .now) (entry c .args .server .now) (entry c .args .o) (entry c .args .offered .now) (entry c .args .out .now)
 
 -- they are clear
 module _ (c : tie.After-enum-told) where
-  clear : said (checked c) ≡ Clear
+  clear : openCheck (checked c) ≡ Clear
   clear = sym (checked c .check-open .ensures) ∙ c .enum-told .given .1
 
 -- the server's block was made

@@ -3,7 +3,7 @@
 use mathlib.Core.Path.{_≡_, sym, _∙_}
 use Rattle.segment.specs.declared.refusal.Check.{Check}
 use Rattle.segment.specs.declared.refusal.Check.the-variants.{Clear}
-use Rattle.client.proofs.Calling.{Named, failed-refused, failed-kept, failed-time, failed-done}
+use Rattle.client.proofs.Step.{Named, failed-refused, failed-kept, failed-time, failed-done}
 use borrow.Author.Needs.{needs}
 use Rattle.client.proofs.calls.failed.Statement.{statement}
 use Rattle.client.proofs.calls.failed.Tie as tie
@@ -29,12 +29,12 @@ banned c = c .before
 
 -- what the checks come to
 module _ (c : tie.After-check-name) where
-  abbrev said : Check
-  said = Named (entry c .args .m) (entry c .args .time) (entry c .args .server .now) (entry c .args .port)
+  abbrev nameCheck : Check
+  nameCheck = Named (entry c .args .m) (entry c .args .time) (entry c .args .server .now) (entry c .args .port)
 
 -- they are clear
 module _ (c : tie.After-enum-told) where
-  clear : said (checked c) ≡ Clear
+  clear : nameCheck (checked c) ≡ Clear
   clear = sym (checked c .check-name .ensures) ∙ c .enum-told .given .1
 
 check-name-requires : tie.Need-check-name-requires

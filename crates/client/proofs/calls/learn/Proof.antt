@@ -6,7 +6,7 @@ use mathlib.Core.Logic.{⊎-elim}
 use borrow.Author.Tests.{not-true, not-false}
 use Rattle.client.specs.Cache.{withCache}
 use Rattle.client.specs.declared.cache.Entry.{Entry}
-use Rattle.client.proofs.Parts.{nothing-brought, cookie-brought, mss-brought}
+use Rattle.client.proofs.After.{nothing-brought, cookie-brought, mss-brought}
 use borrow.Author.Needs.{needs}
 use Rattle.client.proofs.calls.learn.Statement.{statement}
 use Rattle.client.proofs.calls.learn.Tie as tie

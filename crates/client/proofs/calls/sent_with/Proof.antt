@@ -1,7 +1,7 @@
 -- `client::calls::sent_with` meets its contract: banned, without a cookie, or the smaller of two.
 -- Assumes nothing.
 use native.Mathlib.Omega.{arith}
-use Rattle.client.proofs.Parts.{sent-none, sent-offered, sent-room, with-most}
+use Rattle.client.proofs.After.{sent-none, sent-offered, sent-data-room, with-most}
 use borrow.Author.Needs.{needs}
 use Rattle.client.proofs.calls.sent_with.Statement.{statement}
 use Rattle.client.proofs.calls.sent_with.Tie as tie
@@ -23,8 +23,8 @@ returns-2 c =
 data-room-requires : tie.Need-data-room-requires
 data-room-requires c κs = search needs
 
-cast-room : tie.Need-cast-room
-cast-room c = search needs
+cast-most : tie.Need-cast-most
+cast-most c = search needs
 
 returns-3 : tie.Need-returns-3
 returns-3 c =
@@ -38,7 +38,7 @@ returns-4 c =
     let p = c .before .before .before in
     let a = p .before .before .args in
     with-most (a .family) (a .banned) (a .e) (a .offered)
-    (sent-room (a .family) (a .e) (a .offered) (p .before .if1 .left) (p .cookie-length .ensures) (c .before .before .if2 .left) (c .before .data-room .ensures) (omega arith))
+    (sent-data-room (a .family) (a .e) (a .offered) (p .before .if1 .left) (p .cookie-length .ensures) (c .before .before .if2 .left) (c .before .data-room .ensures) (omega arith))
 
 pub sent-with-spec : {M : Type 1} → statement M
 sent-with-spec =
@@ -48,6 +48,6 @@ sent-with-spec =
     cookie-length-requires
     returns-2
     data-room-requires
-    cast-room
+    cast-most
     returns-3
     returns-4)

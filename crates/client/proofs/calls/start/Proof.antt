@@ -1,7 +1,7 @@
 -- `client::calls::start` meets its contract: a size of addresses, or not.
 -- Assumes nothing.
 use borrow.Author.Tests.{not-true, not-false}
-use Rattle.client.proofs.Calling.{start-refused, start-done}
+use Rattle.client.proofs.Step.{start-refused, start-done}
 use borrow.Author.Needs.{needs}
 use Rattle.client.proofs.calls.start.Statement.{statement}
 use Rattle.client.proofs.calls.start.Tie as tie

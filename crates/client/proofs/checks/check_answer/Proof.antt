@@ -2,7 +2,7 @@
 -- Assumes nothing.
 use mathlib.Core.Path.{sym, _∙_}
 use Rattle.endpoint.specs.Checks.{isUntimely}
-use Rattle.client.proofs.Judging.{answer-stopped, answer-passed}
+use Rattle.client.proofs.Refusals.{answer-stopped, answer-passed}
 use borrow.Author.Needs.{needs}
 use Rattle.client.proofs.checks.check_answer.Statement.{statement}
 use Rattle.client.proofs.checks.check_answer.Tie as tie

@@ -2,7 +2,7 @@
 -- Assumes nothing.
 use mathlib.Core.Path.{sym, _∙_}
 use Rattle.endpoint.specs.Checks.{isUntimely}
-use Rattle.client.proofs.Judging.{pair-stopped, pair-right, pair-wrong}
+use Rattle.client.proofs.Refusals.{pair-stopped, pair-right, pair-wrong}
 use borrow.Author.Needs.{needs}
 use Rattle.client.proofs.checks.check_pair.Statement.{statement}
 use Rattle.client.proofs.checks.check_pair.Tie as tie

@@ -2,7 +2,7 @@
 -- Assumes nothing.
 use native.Mathlib.Omega.{arith}
 use borrow.Author.Tests.{not-true, not-false}
-use Rattle.client.proofs.Judging.{dropped-flags, dropped-range, dropped-count, heard}
+use Rattle.client.proofs.Refusals.{dropped-flags, dropped-range, dropped-count, heard}
 use borrow.Author.Needs.{needs}
 use Rattle.client.proofs.checks.check_reply.Statement.{statement}
 use Rattle.client.proofs.checks.check_reply.Tie as tie

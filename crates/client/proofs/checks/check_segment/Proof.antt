@@ -2,7 +2,7 @@
 -- Assumes nothing.
 use mathlib.Core.Path.{sym, _∙_}
 use borrow.Author.Tests.{not-true, not-false}
-use Rattle.client.proofs.Judging.{dropped-shape, dropped-sum, dropped-port, replied}
+use Rattle.client.proofs.Refusals.{dropped-shape, dropped-sum, dropped-port, replied}
 use borrow.Author.Needs.{needs}
 use Rattle.client.proofs.checks.check_segment.Statement.{statement}
 use Rattle.client.proofs.checks.check_segment.Tie as tie

@@ -1,6 +1,6 @@
 -- `client::checks::is_between` meets its contract: one port, then the other.
 -- Assumes nothing.
-use Rattle.client.proofs.Judging.{elsewhere, from-server}
+use Rattle.client.proofs.Refusals.{elsewhere, from-server}
 use Rattle.client.proofs.checks.is_between.Statement.{statement}
 use Rattle.client.proofs.checks.is_between.Tie as tie
 

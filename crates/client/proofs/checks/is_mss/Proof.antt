@@ -1,7 +1,7 @@
 -- `client::checks::is_mss` meets its contract: one case for each way out.
 -- Assumes nothing.
 use native.Mathlib.Omega.{arith}
-use Rattle.client.proofs.Judging.{mss-low, mss-rest}
+use Rattle.client.proofs.Refusals.{mss-low, mss-rest}
 use Rattle.client.proofs.checks.is_mss.Statement.{statement}
 use Rattle.client.proofs.checks.is_mss.Tie as tie
 

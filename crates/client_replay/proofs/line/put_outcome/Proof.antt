@@ -5,19 +5,19 @@ use mathlib.Core.Path.{_≡_, ap₂}
 use mathlib.Core.Bool.{Bool}
 use mathlib.Core.List.{List}
 use lib.ListN.{take}
-use Rattle.client.specs.declared.answer.Event.{Event}
+use Rattle.client.specs.declared.outcome.Event.{Event}
 use Rattle.text.specs.Output.{isKept}
 use Rattle.text.proofs.Puts.{same-put}
-use Rattle.client_replay.specs.Line.{answerLine, outcomeLine}
+use Rattle.client_replay.specs.Line.{lineOf, outcomeLine}
 use borrow.Author.Needs.{needs}
 use Rattle.client_replay.proofs.line.put_outcome.Statement.{statement}
 use Rattle.client_replay.proofs.line.put_outcome.Tie as tie
 
 -- the line, of what was written and of whether the rest is kept
 line-of : (event : Event) (lent : List ℕ) (n : ℕ) {written : List ℕ} {kept : Bool} → written ≡ take n lent → kept ≡ isKept n lent
-    → answerLine event written kept ≡ outcomeLine event lent n
+    → lineOf event written kept ≡ outcomeLine event lent n
 unfolding outcomeLine
-line-of event lent n p q = ap₂ (answerLine event) p q
+line-of event lent n p q = ap₂ (lineOf event) p q
 
 is-kept-requires : tie.Need-is-kept-requires
 is-kept-requires c κs = search needs
@@ -25,8 +25,8 @@ is-kept-requires c κs = search needs
 first-requires : tie.Need-first-requires
 first-requires c κs = search needs
 
-put-answer-requires : tie.Need-put-answer-requires
-put-answer-requires c κs = search needs
+put-fields-requires : tie.Need-put-fields-requires
+put-fields-requires c κs = search needs
 
 same-length : tie.Need-same-length
 same-length c = search needs
@@ -34,8 +34,8 @@ same-length c = search needs
 returns : tie.Need-returns
 returns c =
     let s = c .before .before .before .before .before .before .before .before .args in
-    same-put (s .out .now) 0 _ (outcomeLine (s .event) (s .lent .now) (s .written)) _ _ (line-of (s .event) (s .lent .now) (s .written) (c .before .before .before .first .ensures) (c .before .before .before .before .before .is-kept .ensures)) (c .before .before .put-answer .ensures)
+    same-put (s .out .now) 0 _ (outcomeLine (s .event) (s .lent .now) (s .written)) _ _ (line-of (s .event) (s .lent .now) (s .written) (c .before .before .before .first .ensures) (c .before .before .before .before .before .is-kept .ensures)) (c .before .before .put-fields .ensures)
 
 pub put-outcome-spec : {M : Type 1} → statement M
 put-outcome-spec =
-    tie.close (tie.spec is-kept-requires first-requires put-answer-requires same-length returns)
+    tie.close (tie.spec is-kept-requires first-requires put-fields-requires same-length returns)

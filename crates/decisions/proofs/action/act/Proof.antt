@@ -3,8 +3,8 @@
 use mathlib.Core.Path.{refl, sym, ap, _∙_}
 use Rattle.protocol.specs.Table.{withStatus}
 use Rattle.protocol.specs.declared.slots.Status.{Status}
-use Rattle.protocol.specs.declared.answer.Event.the-variants as events
-use Rattle.decisions.proofs.Acting.{acts-as, acts-quiet}
+use Rattle.protocol.specs.declared.outcome.Event.the-variants as events
+use Rattle.decisions.proofs.Act.{acts-as, acts-quiet}
 use borrow.Author.Needs.{needs}
 use Rattle.decisions.proofs.action.act.Statement.{statement}
 use Rattle.decisions.proofs.action.act.Tie as tie

@@ -1,6 +1,6 @@
 -- `decisions::action::open_new` meets its contract: the offer decides.
 -- Assumes nothing.
-use Rattle.decisions.proofs.Acting.{opens-early, opens-regular}
+use Rattle.decisions.proofs.Act.{opens-early, opens-regular}
 use borrow.Author.Needs.{needs}
 use Rattle.decisions.proofs.action.open_new.Statement.{statement}
 use Rattle.decisions.proofs.action.open_new.Tie as tie

@@ -1,7 +1,7 @@
 -- `decisions::checks::admits_completion` meets its contract: the window, then the acknowledgement.
 -- Assumes nothing.
 use borrow.Author.Tests.{not-true, not-false}
-use Rattle.decisions.proofs.Tests.{not-completed, completed}
+use Rattle.decisions.proofs.IsInRange.{not-completed, completed}
 use borrow.Author.Needs.{needs}
 use Rattle.decisions.proofs.checks.admits_completion.Statement.{statement}
 use Rattle.decisions.proofs.checks.admits_completion.Tie as tie

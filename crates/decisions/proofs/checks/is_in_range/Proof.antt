@@ -1,7 +1,7 @@
 -- `decisions::checks::is_in_range` meets its contract: each bound in turn.
 -- Assumes nothing.
 use native.Mathlib.Omega.{arith}
-use Rattle.decisions.proofs.Tests.{last-bound}
+use Rattle.decisions.proofs.IsInRange.{last-bound}
 use borrow.Author.Tests.{lt-leb, le-leb}
 use Rattle.protocol.specs.Refusals.{inRange}
 use Rattle.decisions.proofs.checks.is_in_range.Statement.{statement}
@@ -17,19 +17,19 @@ returns-2 : tie.Need-returns-2
 unfolding inRange
 returns-2 c =
     let g = c .before .before .before .before .args .g in
-    rw (le-leb (g .limit) 64 (omega (arith, c .before .before .if1 .left)), lt-leb (g .room) 1460 (omega arith))
+    rw (le-leb (g .limit) 64 (omega (arith, c .before .before .if1 .left)), lt-leb (g .«early_room») 1460 (omega arith))
 
 returns-3 : tie.Need-returns-3
 unfolding inRange
 returns-3 c =
     let g = c .before .before .before .before .before .before .args .g in
-    rw (le-leb (g .limit) 64 (omega (arith, c .before .before .before .before .if1 .left)), le-leb (g .room) 1460 (omega (arith, c .before .before .if2 .left)), lt-leb (g .hold) 65535 (omega arith))
+    rw (le-leb (g .limit) 64 (omega (arith, c .before .before .before .before .if1 .left)), le-leb (g .«early_room») 1460 (omega (arith, c .before .before .if2 .left)), lt-leb (g .hold) 65535 (omega arith))
 
 returns-4 : tie.Need-returns-4
 unfolding inRange
 returns-4 c =
     let g = c .before .before .before .before .before .before .before .before .args .g in
-    rw (le-leb (g .limit) 64 (omega (arith, c .before .before .before .before .before .before .if1 .left)), le-leb (g .room) 1460 (omega (arith, c .before .before .before .before .if2 .left)), le-leb (g .hold) 65535 (omega (arith, c .before .before .if3 .left)), lt-leb 536 (g .mss) (omega arith))
+    rw (le-leb (g .limit) 64 (omega (arith, c .before .before .before .before .before .before .if1 .left)), le-leb (g .«early_room») 1460 (omega (arith, c .before .before .before .before .if2 .left)), le-leb (g .hold) 65535 (omega (arith, c .before .before .if3 .left)), lt-leb 536 (g .mss) (omega arith))
 
 returns-5 : tie.Need-returns-5
 returns-5 c =

@@ -14,11 +14,11 @@ use Rattle.segment.specs.declared.header.Header.{Header}
 use Rattle.segment.specs.declared.header.Shape.the-variants.{WellFormed}
 use Rattle.endpoint.specs.Checks.{isUntimely, timely, addressed}
 use Rattle.endpoint.proofs.Blocks.{own-most, own-part}
-use Rattle.protocol.specs.Refusals.{roomy, wireChecks}
+use Rattle.protocol.specs.Refusals.{outputChecks, wireChecks}
 use Rattle.decisions.specs.Received.{received}
 use Rattle.decisions.specs.declared.checks.Received.{Received}
 use Rattle.decisions.specs.declared.checks.Received.the-variants.{Dropped, Read}
-use Rattle.decisions.proofs.Receiving.{dropped-before, dropped-shape, dropped-sum, dropped-port, read}
+use Rattle.decisions.proofs.Receive.{dropped-before, dropped-shape, dropped-sum, dropped-port, read}
 use Rattle.decisions.proofs.checks.receive.Statement.{statement}
 use Rattle.decisions.proofs.checks.receive.Tie as tie
 
@@ -27,8 +27,8 @@ module _ (s : tie.Start) where
   abbrev late : Bool
   late = isUntimely (s .args .clock) (s .args .time)
 
-  abbrev answer : Received
-  answer = received (refusal (wireChecks (s .args .home) late (s .args .src .now) (s .args .seg .now) (s .args .room))) (fieldsOf (s .args .seg .now))
+  abbrev result : Received
+  result = received (refusal (wireChecks (s .args .local) late (s .args .src .now) (s .args .seg .now) (s .args .out-len))) (fieldsOf (s .args .seg .now))
 
 -- The first checks have answered
 abbrev entry : tie.After-check-output → tie.Start
@@ -39,7 +39,7 @@ module _ (c : tie.After-enum-told) where
   abbrev began : tie.Start
   began = entry (c .before .before)
 
-  clear : refusal (timely (began .args .home .started) (late began) ++ addressed (began .args .home .family) (began .args .src .now) ++ roomy (began .args .room)) ≡ Clear
+  clear : refusal (timely (began .args .local .started) (late began) ++ addressed (began .args .local .family) (began .args .src .now) ++ outputChecks (began .args .out-len)) ≡ Clear
   clear = sym (c .before .before .check-output .ensures) ∙ c .enum-told .given .1
 
 -- The segment is well-formed
@@ -64,21 +64,21 @@ module _ (c : tie.After-is-checksum-right) where
   abbrev from : tie.Start
   from = began (told formed)
 
-  sum-wrong : c .is-checksum-right .result ≡ false → Dropped Checksum ≡ answer from
+  sum-wrong : c .is-checksum-right .result ≡ false → Dropped Checksum ≡ result from
   sum-wrong k =
       let a = from .args in
-      dropped-sum (a .home) (late from) (a .src .now) (a .seg .now) (a .room) (clear (told formed)) (shape formed) (c .before .before .size-of .ensures) (c .is-checksum-right .ensures) k
+      dropped-sum (a .local) (late from) (a .src .now) (a .seg .now) (a .out-len) (clear (told formed)) (shape formed) (c .before .before .size-of .ensures) (c .is-checksum-right .ensures) k
 
   module _ (k : c .is-checksum-right .result ≡ true) where
-    other-port : (header formed .dest ≡ from .args .home .port → ⊥) → Dropped Port ≡ answer from
+    other-port : (header formed .dest ≡ from .args .local .port → ⊥) → Dropped Port ≡ result from
     other-port d =
         let a = from .args in
-        dropped-port (a .home) (late from) (a .src .now) (a .seg .now) (a .room) (clear (told formed)) (shape formed) (c .before .before .size-of .ensures) (c .is-checksum-right .ensures) k d
+        dropped-port (a .local) (late from) (a .src .now) (a .seg .now) (a .out-len) (clear (told formed)) (shape formed) (c .before .before .size-of .ensures) (c .is-checksum-right .ensures) k d
 
-    our-port : header formed .dest ≡ from .args .home .port → Read (header formed) ≡ answer from
+    our-port : header formed .dest ≡ from .args .local .port → Read (header formed) ≡ result from
     our-port d =
         let a = from .args in
-        read (a .home) (late from) (a .src .now) (a .seg .now) (a .room) (clear (told formed)) (shape formed) (c .before .before .size-of .ensures) (c .is-checksum-right .ensures) k d
+        read (a .local) (late from) (a .src .now) (a .seg .now) (a .out-len) (clear (told formed)) (shape formed) (c .before .before .size-of .ensures) (c .is-checksum-right .ensures) k d
 
 check-output-requires : tie.Need-check-output-requires
 check-output-requires c κs = search needs
@@ -103,12 +103,12 @@ size-of-requires c κs = search needs
 
 array-share-prefix-own : tie.Need-array-share-prefix-own
 array-share-prefix-own c =
-    let h = began (told (sized c)) .args .home in
+    let h = began (told (sized c)) .args .local in
     own-most (h .family) (h .own) (c .size-of .ensures) (search needs)
 
 slice-aggregate-is-checksum-right : tie.Need-slice-aggregate-is-checksum-right
 slice-aggregate-is-checksum-right c =
-    let h = began (told (sized (c .before))) .args .home in
+    let h = began (told (sized (c .before))) .args .local in
     own-part (h .family) (h .own) (c .before .size-of .ensures) (search needs)
 
 is-checksum-right-requires : tie.Need-is-checksum-right-requires
@@ -126,13 +126,13 @@ returns-3 : tie.Need-returns-3
 returns-3 c =
     let checked = c .before .before .before in
     let s = entry checked in
-    dropped-before (s .args .home) (late s) (s .args .src .now) (s .args .seg .now) (s .args .room) (sym (checked .check-output .ensures) ∙ c .before .why .given .1)
+    dropped-before (s .args .local) (late s) (s .args .src .now) (s .args .seg .now) (s .args .out-len) (sym (checked .check-output .ensures) ∙ c .before .why .given .1)
 
 returns-4 : tie.Need-returns-4
 returns-4 c =
     let read = c .before .before in
     let s = began (read .before) in
-    dropped-shape (s .args .home) (late s) (s .args .src .now) (s .args .seg .now) (s .args .room) (clear (read .before)) (sym (read .read-header .ensures) ∙ c .enum-told2 .given .1)
+    dropped-shape (s .args .local) (late s) (s .args .src .now) (s .args .seg .now) (s .args .out-len) (clear (read .before)) (sym (read .read-header .ensures) ∙ c .enum-told2 .given .1)
 
 returns-5 : tie.Need-returns-5
 returns-5 c =

@@ -7,7 +7,7 @@ use mathlib.Core.Logic.{⊎-elim}
 use native.Mathlib.Omega.{arith}
 use lib.ListN.{length, drop}
 use Rattle.lists.specs.Bytes.{sameBytes}
-use Rattle.lists.proofs.Comparing.{differ, agree, at-end}
+use Rattle.lists.proofs.CompareLoop.{differ, agree, at-end}
 use borrow.Author.Needs.{needs}
 use Rattle.endpoint.proofs.address.same_block.Statement.{statement}
 use Rattle.endpoint.proofs.address.same_block.Tie as tie

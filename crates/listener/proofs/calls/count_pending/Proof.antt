@@ -4,7 +4,7 @@ use Prim.Native.Nat.{_-_, _≤_, _<_}
 use mathlib.Core.Path.{_≡_}
 use native.Mathlib.Omega.{arith}
 use lib.ListN.{length, length-map}
-use Rattle.table.proofs.Scanning.{CountedTo, counted-start, counted-next, counted-end}
+use Rattle.table.proofs.ScanOf.{CountedTo, counted-start, counted-next, counted-end}
 use borrow.Author.Needs.{needs}
 use Rattle.listener.proofs.calls.count_pending.Statement.{statement}
 use Rattle.listener.proofs.calls.count_pending.Tie as tie

@@ -18,16 +18,16 @@ use Rattle.endpoint.proofs.Chain.{named-short}
 use Rattle.protocol.specs.Table.{scanOf}
 use Rattle.protocol.specs.View.{slotAt, view}
 use Rattle.protocol.specs.Refusals.{isReleasable}
-use Rattle.protocol.proofs.Calling.{release-stopped, release-none, release-done}
-use Rattle.listener.proofs.Lookup.{Looking, looking-start, looking-on, looked, peer-slot, freed-is, released-within}
+use Rattle.protocol.proofs.Step.{release-stopped, release-none, release-done}
+use Rattle.listener.proofs.View.{ScanLoop, loop-start, loop-on, scan-found, peer-slot, freed-is, released-in-table}
 use Rattle.listener.proofs.calls.free_named.Statement.{statement}
 use Rattle.listener.proofs.calls.free_named.Tie as tie
 
 abbrev Inv-loop : tie.InvT-loop
-Inv-loop time addr port established next b seen₀ i₀ seen i = Looking time b port (next .slots) i seen
+Inv-loop time addr port established next b scan₀ i₀ scan i = ScanLoop time b port (next .slots) i scan
 
 abbrev μ-loop : tie.MeasureT-loop
-μ-loop time addr port established next b seen₀ i₀ seen i = 64 - i
+μ-loop time addr port established next b scan₀ i₀ scan i = 64 - i
 
 -- The first checks have answered
 abbrev entry : tie.After-check-name Inv-loop μ-loop → tie.Start Inv-loop μ-loop
@@ -41,13 +41,13 @@ module _ (c : tie.After-block-of Inv-loop μ-loop) where
   abbrev began : tie.Start Inv-loop μ-loop
   began = entry checked
 
-  clear : refusal (timely (began .args .l .home .started) (isUntimely (began .args .l .clock) (began .args .time)) ++ addressed (began .args .l .home .family) (began .args .addr .now)) ≡ Clear
+  clear : refusal (timely (began .args .l .local .started) (isUntimely (began .args .l .clock) (began .args .time)) ++ addressed (began .args .l .local .family) (began .args .addr .now)) ≡ Clear
   clear = sym (checked .check-name .ensures) ∙ c .before .enum-told .given .1
 
   block-is : c .block-of .result ≡ block (began .args .addr .now)
   block-is =
       let a = began .args in
-      kept (a .addr .now) (named-short (a .l .home .started) (isUntimely (a .l .clock) (a .time)) (a .l .home .family) (a .addr .now) clear) (c .block-of .ensures)
+      kept (a .addr .now) (named-short (a .l .local .started) (isUntimely (a .l .clock) (a .time)) (a .l .local .family) (a .addr .now) clear) (c .block-of .ensures)
 
   full : length (began .args .l .slots) ≡ 64
   full = simp length-map at (began .good .0 .1 .1 .0 .1 .0 .1)
@@ -70,11 +70,11 @@ module _ (c : tie.After-slot-found Inv-loop μ-loop) where
   abbrev peer : Peer
   peer = record { address = start .args .addr .now; port = start .args .port }
 
-  found : (scanned .loop .seen ≡ scanOf (start .args .time) (named .block-of .result) (start .args .port) (start .args .l .slots))
-      × (c .slot-found .result ≡ slotAt (start .args .l) (scanned .loop .seen .place))
+  found : (scanned .loop .scan ≡ scanOf (start .args .time) (named .block-of .result) (start .args .port) (start .args .l .slots))
+      × (c .slot-found .result ≡ slotAt (start .args .l) (scanned .loop .scan .place))
   found =
-      looked (start .args .l) (start .args .time) _ _ (scanned .loop .i) (scanned .loop .seen) _ _ (full named) (c .before .before .before .loop-test .left) (scanned .loop .inv)
-      (c .before .before .within .ensures) (c .slot-found .ensures)
+      scan-found (start .args .l) (start .args .time) _ _ (scanned .loop .i) (scanned .loop .scan) _ _ (full named) (c .before .before .before .loop-test .left) (scanned .loop .inv)
+      (c .before .before .index-in-table .ensures) (c .slot-found .ensures)
 
   peer-is : c .slot-found .result ≡ view (start .args .l) (start .args .time) peer .slot
   peer-is = peer-slot (start .args .l) (start .args .time) (start .args .addr .now) (start .args .port) (block-is named) (found .0) (found .1)
@@ -87,8 +87,8 @@ module _ (c : tie.After-is-releasable Inv-loop μ-loop) where
   releasable : isReleasable (start read .args .established) (view (start read .args .l) (start read .args .time) (peer read) .slot .status) ≡ c .is-releasable .result
   releasable = sym (rw (peer-is read) at (c .is-releasable .ensures))
 
-  in-table : c .is-releasable .result ≡ true → scanned read .loop .seen .place < 64
-  in-table k = released-within (start read .args .l) (full (named read)) _ (found read .1) (start read .args .established) (sym (c .is-releasable .ensures) ∙ k)
+  in-table : c .is-releasable .result ≡ true → scanned read .loop .scan .place < 64
+  in-table k = released-in-table (start read .args .l) (full (named read)) _ (found read .1) (start read .args .established) (sym (c .is-releasable .ensures) ∙ k)
 
 check-name-requires : tie.Need-check-name-requires Inv-loop μ-loop
 check-name-requires c κs = search needs
@@ -111,11 +111,11 @@ enum-told c = search needs
 block-of-requires : tie.Need-block-of-requires Inv-loop μ-loop
 block-of-requires c κs = search needs
 
-nothing-seen-requires : tie.Need-nothing-seen-requires Inv-loop μ-loop
-nothing-seen-requires c κs = search needs
+empty-scan-requires : tie.Need-empty-scan-requires Inv-loop μ-loop
+empty-scan-requires c κs = search needs
 
 loop-holds : tie.Need-loop-holds Inv-loop μ-loop
-loop-holds c = looking-start _ _ _ _ (full (c .before)) _ (c .nothing-seen .ensures)
+loop-holds c = loop-start _ _ _ _ (full (c .before)) _ (c .empty-scan .ensures)
 
 mul-s : tie.Need-mul-s Inv-loop μ-loop
 mul-s c = search needs
@@ -123,8 +123,8 @@ mul-s c = search needs
 element-copy-out-s : tie.Need-element-copy-out-s Inv-loop μ-loop
 element-copy-out-s c = search needs
 
-look-requires : tie.Need-look-requires Inv-loop μ-loop
-look-requires c κs = search needs
+scan-slot-requires : tie.Need-scan-slot-requires Inv-loop μ-loop
+scan-slot-requires c κs = search needs
 
 add-i : tie.Need-add-i Inv-loop μ-loop
 add-i c = search needs
@@ -135,16 +135,16 @@ loop-less c = search needs
 loop-again : tie.Need-loop-again Inv-loop μ-loop
 loop-again c =
     let at = c .before .before .before in
-    looking-on _ _ _ (began (blocked at) .args .l .slots) (full (blocked at)) (at .loop .i) _ _ _ (omega arith) (at .loop .inv) (c .look .ensures)
+    loop-on _ _ _ (began (blocked at) .args .l .slots) (full (blocked at)) (at .loop .i) _ _ _ (omega arith) (at .loop .inv) (c .scan-slot .ensures)
 
-within-requires : tie.Need-within-requires Inv-loop μ-loop
-within-requires c κs = search needs
+index-in-table-requires : tie.Need-index-in-table-requires Inv-loop μ-loop
+index-in-table-requires c κs = search needs
 
 mul-s-2 : tie.Need-mul-s-2 Inv-loop μ-loop
-mul-s-2 c = omega (arith, c .within .ensures .1)
+mul-s-2 c = omega (arith, c .index-in-table .ensures .1)
 
 element-copy-out-s-2 : tie.Need-element-copy-out-s-2 Inv-loop μ-loop
-element-copy-out-s-2 c = omega (arith, c .within .ensures .1)
+element-copy-out-s-2 c = omega (arith, c .index-in-table .ensures .1)
 
 slot-found-requires : tie.Need-slot-found-requires Inv-loop μ-loop
 slot-found-requires c κs = search needs
@@ -192,15 +192,15 @@ free-named-spec =
     returns
     enum-told
     block-of-requires
-    nothing-seen-requires
+    empty-scan-requires
     loop-holds
     mul-s
     element-copy-out-s
-    look-requires
+    scan-slot-requires
     add-i
     loop-less
     loop-again
-    within-requires
+    index-in-table-requires
     mul-s-2
     element-copy-out-s-2
     slot-found-requires

@@ -15,17 +15,17 @@ use Rattle.endpoint.specs.Checks.{isUntimely, timely, addressed}
 use Rattle.endpoint.proofs.Blocks.{kept}
 use Rattle.protocol.specs.Table.{isWaiting, scanOf}
 use Rattle.protocol.specs.View.{slotAt, view}
-use Rattle.protocol.specs.Refusals.{roomy}
-use Rattle.protocol.proofs.Calling.{resend-stopped, resend-none, resend-done, roomy-short, unwritten, resent}
-use Rattle.listener.proofs.Lookup.{Looking, looking-start, looking-on, looked, peer-slot}
+use Rattle.protocol.specs.Refusals.{outputChecks}
+use Rattle.protocol.proofs.Step.{resend-stopped, resend-none, resend-done, output-short-address, unwritten, resent}
+use Rattle.listener.proofs.View.{ScanLoop, loop-start, loop-on, scan-found, peer-slot}
 use Rattle.listener.proofs.calls.resend.Statement.{statement}
 use Rattle.listener.proofs.calls.resend.Tie as tie
 
 abbrev Inv-loop : tie.InvT-loop
-Inv-loop time addr port out home next b seen₀ i₀ seen i = Looking time b port (next .slots) i seen
+Inv-loop time addr port out local next b scan₀ i₀ scan i = ScanLoop time b port (next .slots) i scan
 
 abbrev μ-loop : tie.MeasureT-loop
-μ-loop time addr port out home next b seen₀ i₀ seen i = 64 - i
+μ-loop time addr port out local next b scan₀ i₀ scan i = 64 - i
 
 -- The first checks have answered
 abbrev entry : tie.After-check-output Inv-loop μ-loop → tie.Start Inv-loop μ-loop
@@ -39,14 +39,14 @@ module _ (c : tie.After-block-of Inv-loop μ-loop) where
   abbrev began : tie.Start Inv-loop μ-loop
   began = entry checked
 
-  clear : refusal (timely (began .args .l .home .started) (isUntimely (began .args .l .clock) (began .args .time)) ++ addressed (began .args .l .home .family) (began .args .addr .now)
-      ++ roomy (length (began .args .out .now))) ≡ Clear
+  clear : refusal (timely (began .args .l .local .started) (isUntimely (began .args .l .clock) (began .args .time)) ++ addressed (began .args .l .local .family) (began .args .addr .now)
+      ++ outputChecks (length (began .args .out .now))) ≡ Clear
   clear = sym (checked .check-output .ensures) ∙ c .before .enum-told .given .1
 
   block-is : c .block-of .result ≡ block (began .args .addr .now)
   block-is =
       let a = began .args in
-      kept (a .addr .now) (roomy-short (a .l .home) (isUntimely (a .l .clock) (a .time)) (a .addr .now) (length (a .out .now)) clear) (c .block-of .ensures)
+      kept (a .addr .now) (output-short-address (a .l .local) (isUntimely (a .l .clock) (a .time)) (a .addr .now) (length (a .out .now)) clear) (c .block-of .ensures)
 
   full : length (began .args .l .slots) ≡ 64
   full = simp length-map at (began .good .0 .1 .1 .0 .1 .0 .1)
@@ -72,11 +72,11 @@ module _ (c : tie.After-is-waiting Inv-loop μ-loop) where
   abbrev peer : Peer
   peer = record { address = start .args .addr .now; port = start .args .port }
 
-  found : (scanned .loop .seen ≡ scanOf (start .args .time) (named .block-of .result) (start .args .port) (start .args .l .slots))
-      × (read .slot-found .result ≡ slotAt (start .args .l) (scanned .loop .seen .place))
+  found : (scanned .loop .scan ≡ scanOf (start .args .time) (named .block-of .result) (start .args .port) (start .args .l .slots))
+      × (read .slot-found .result ≡ slotAt (start .args .l) (scanned .loop .scan .place))
   found =
-      looked (start .args .l) (start .args .time) _ _ (scanned .loop .i) (scanned .loop .seen) _ _ (full named) (read .before .before .before .loop-test .left) (scanned .loop .inv)
-      (read .before .before .within .ensures) (read .slot-found .ensures)
+      scan-found (start .args .l) (start .args .time) _ _ (scanned .loop .i) (scanned .loop .scan) _ _ (full named) (read .before .before .before .loop-test .left) (scanned .loop .inv)
+      (read .before .before .index-in-table .ensures) (read .slot-found .ensures)
 
   peer-is : read .slot-found .result ≡ view (start .args .l) (start .args .time) peer .slot
   peer-is = peer-slot (start .args .l) (start .args .time) (start .args .addr .now) (start .args .port) (block-is named) (found .0) (found .1)
@@ -105,11 +105,11 @@ enum-told c = search needs
 block-of-requires : tie.Need-block-of-requires Inv-loop μ-loop
 block-of-requires c κs = search needs
 
-nothing-seen-requires : tie.Need-nothing-seen-requires Inv-loop μ-loop
-nothing-seen-requires c κs = search needs
+empty-scan-requires : tie.Need-empty-scan-requires Inv-loop μ-loop
+empty-scan-requires c κs = search needs
 
 loop-holds : tie.Need-loop-holds Inv-loop μ-loop
-loop-holds c = looking-start _ _ _ _ (full (c .before)) _ (c .nothing-seen .ensures)
+loop-holds c = loop-start _ _ _ _ (full (c .before)) _ (c .empty-scan .ensures)
 
 mul-s : tie.Need-mul-s Inv-loop μ-loop
 mul-s c = search needs
@@ -117,8 +117,8 @@ mul-s c = search needs
 element-copy-out-s : tie.Need-element-copy-out-s Inv-loop μ-loop
 element-copy-out-s c = search needs
 
-look-requires : tie.Need-look-requires Inv-loop μ-loop
-look-requires c κs = search needs
+scan-slot-requires : tie.Need-scan-slot-requires Inv-loop μ-loop
+scan-slot-requires c κs = search needs
 
 add-i : tie.Need-add-i Inv-loop μ-loop
 add-i c = search needs
@@ -129,16 +129,16 @@ loop-less c = search needs
 loop-again : tie.Need-loop-again Inv-loop μ-loop
 loop-again c =
     let at = c .before .before .before in
-    looking-on _ _ _ (began (blocked at) .args .l .slots) (full (blocked at)) (at .loop .i) _ _ _ (omega arith) (at .loop .inv) (c .look .ensures)
+    loop-on _ _ _ (began (blocked at) .args .l .slots) (full (blocked at)) (at .loop .i) _ _ _ (omega arith) (at .loop .inv) (c .scan-slot .ensures)
 
-within-requires : tie.Need-within-requires Inv-loop μ-loop
-within-requires c κs = search needs
+index-in-table-requires : tie.Need-index-in-table-requires Inv-loop μ-loop
+index-in-table-requires c κs = search needs
 
 mul-s-2 : tie.Need-mul-s-2 Inv-loop μ-loop
-mul-s-2 c = omega (arith, c .within .ensures .1)
+mul-s-2 c = omega (arith, c .index-in-table .ensures .1)
 
 element-copy-out-s-2 : tie.Need-element-copy-out-s-2 Inv-loop μ-loop
-element-copy-out-s-2 c = omega (arith, c .within .ensures .1)
+element-copy-out-s-2 c = omega (arith, c .index-in-table .ensures .1)
 
 slot-found-requires : tie.Need-slot-found-requires Inv-loop μ-loop
 slot-found-requires c κs = search needs
@@ -183,15 +183,15 @@ resend-spec =
     returns
     enum-told
     block-of-requires
-    nothing-seen-requires
+    empty-scan-requires
     loop-holds
     mul-s
     element-copy-out-s
-    look-requires
+    scan-slot-requires
     add-i
     loop-less
     loop-again
-    within-requires
+    index-in-table-requires
     mul-s-2
     element-copy-out-s-2
     slot-found-requires

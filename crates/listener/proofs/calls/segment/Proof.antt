@@ -19,18 +19,18 @@ use Rattle.protocol.specs.View.{slotAt, viewFrom}
 use Rattle.protocol.specs.Refusals.{kindChecks, wireChecks}
 use Rattle.protocol.specs.Step.{heldUntil}
 use Rattle.protocol.specs.declared.state.View.{View}
-use Rattle.protocol.proofs.Calling.{segment-stopped, wired-short, wired-timely, unwritten, left-alone, written-over}
-use Rattle.decisions.proofs.Receiving.{was-dropped, was-read}
-use Rattle.listener.proofs.Lookup.{Looking, looking-start, looking-on, looked, viewed}
-use Rattle.listener.proofs.Segment.{taken-refused, taken-within, taken-unanswered, taken-answered}
+use Rattle.protocol.proofs.Step.{segment-stopped, wired-short, wired-timely, unwritten, left-alone, written-over}
+use Rattle.decisions.proofs.Receive.{was-dropped, was-read}
+use Rattle.listener.proofs.View.{ScanLoop, loop-start, loop-on, scan-found, viewed}
+use Rattle.listener.proofs.Segment.{taken-refused, taken-in-table, taken-writes-none, taken-writes}
 use Rattle.listener.proofs.calls.segment.Statement.{statement}
 use Rattle.listener.proofs.calls.segment.Tie as tie
 
 abbrev Inv-loop : tie.InvT-loop
-Inv-loop time src seg iss out home h next b seen₀ i₀ seen i = Looking time b (h .source) (next .slots) i seen
+Inv-loop time src seg iss out local h next b scan₀ i₀ scan i = ScanLoop time b (h .source) (next .slots) i scan
 
 abbrev μ-loop : tie.MeasureT-loop
-μ-loop time src seg iss out home h next b seen₀ i₀ seen i = 64 - i
+μ-loop time src seg iss out local h next b scan₀ i₀ scan i = 64 - i
 
 -- The first checks have answered
 abbrev entry : tie.After-receive Inv-loop μ-loop → tie.Start Inv-loop μ-loop
@@ -47,14 +47,14 @@ module _ (c : tie.After-block-of Inv-loop μ-loop) where
   abbrev began : tie.Start Inv-loop μ-loop
   began = entry received
 
-  read : (refusal (wireChecks (began .args .l .home) (isUntimely (began .args .l .clock) (began .args .time)) (began .args .src .now) (began .args .seg .now) (length (began .args .out .now))) ≡ Clear)
+  read : (refusal (wireChecks (began .args .l .local) (isUntimely (began .args .l .clock) (began .args .time)) (began .args .src .now) (began .args .seg .now) (length (began .args .out .now))) ≡ Clear)
       × (header .h .given .0 .0 ≡ fieldsOf (began .args .seg .now))
   read = was-read _ _ (sym (received .receive .ensures) ∙ header .h .given .1)
 
   block-is : c .block-of .result ≡ block (began .args .src .now)
   block-is =
       let a = began .args in
-      kept (a .src .now) (wired-short (a .l .home) (isUntimely (a .l .clock) (a .time)) (a .src .now) (a .seg .now) (length (a .out .now)) (read .0)) (c .block-of .ensures)
+      kept (a .src .now) (wired-short (a .l .local) (isUntimely (a .l .clock) (a .time)) (a .src .now) (a .seg .now) (length (a .out .now)) (read .0)) (c .block-of .ensures)
 
   full : length (began .args .l .slots) ≡ 64
   full = simp length-map at (began .good .0 .1 .1 .0 .1 .0 .1)
@@ -63,7 +63,7 @@ module _ (c : tie.After-block-of Inv-loop μ-loop) where
   on-time : began .args .time ≤ 2 ^ 48
   on-time =
       let a = began .args in
-      time-most (a .l .clock) (a .time) (wired-timely (a .l .home) (isUntimely (a .l .clock) (a .time)) (a .src .now) (a .seg .now) (length (a .out .now)) (read .0))
+      time-most (a .l .clock) (a .time) (wired-timely (a .l .local) (isUntimely (a .l .clock) (a .time)) (a .src .now) (a .seg .now) (length (a .out .now)) (read .0))
 
 -- The loop is at a place
 abbrev blocked : tie.At-loop Inv-loop μ-loop → tie.After-block-of Inv-loop μ-loop
@@ -74,11 +74,11 @@ module _ (c : tie.After-check-kind Inv-loop μ-loop) where
   abbrev kind : tie.After-kind-of Inv-loop μ-loop
   kind = c .before
 
-  abbrev seen : tie.After-view-of Inv-loop μ-loop
-  seen = kind .before
+  abbrev at-view : tie.After-view-of Inv-loop μ-loop
+  at-view = kind .before
 
   abbrev slot : tie.After-slot-found Inv-loop μ-loop
-  slot = seen .before .before .before
+  slot = at-view .before .before .before
 
   abbrev scanned : tie.At-loop Inv-loop μ-loop
   scanned = slot .before .before .before .before
@@ -89,25 +89,25 @@ module _ (c : tie.After-check-kind Inv-loop μ-loop) where
   abbrev start : tie.Start Inv-loop μ-loop
   start = began named
 
-  found : (scanned .loop .seen ≡ scanOf (start .args .time) (named .block-of .result) (header named .h .given .0 .0 .source) (start .args .l .slots))
-      × (slot .slot-found .result ≡ slotAt (start .args .l) (scanned .loop .seen .place))
+  found : (scanned .loop .scan ≡ scanOf (start .args .time) (named .block-of .result) (header named .h .given .0 .0 .source) (start .args .l .slots))
+      × (slot .slot-found .result ≡ slotAt (start .args .l) (scanned .loop .scan .place))
   found =
-      looked (start .args .l) (start .args .time) _ _ (scanned .loop .i) (scanned .loop .seen) _ _ (full named) (slot .before .before .before .loop-test .left) (scanned .loop .inv)
-      (slot .before .before .within .ensures) (slot .slot-found .ensures)
+      scan-found (start .args .l) (start .args .time) _ _ (scanned .loop .i) (scanned .loop .scan) _ _ (full named) (slot .before .before .before .loop-test .left) (scanned .loop .inv)
+      (slot .before .before .index-in-table .ensures) (slot .slot-found .ensures)
 
-  view-is : seen .view-of .result ≡ viewFrom (start .args .l) (start .args .time) (scanned .loop .seen)
-  view-is = viewed (start .args .l) (start .args .time) (scanned .loop .seen) (seen .view-of .ensures) (found .1)
+  view-is : at-view .view-of .result ≡ viewFrom (start .args .l) (start .args .time) (scanned .loop .scan)
+  view-is = viewed (start .args .l) (start .args .time) (scanned .loop .scan) (at-view .view-of .ensures) (found .1)
 
-  end-is : start .args .time + start .args .l .settings .hold ≡ heldUntil (seen .view-of .result) (start .args .time)
+  end-is : start .args .time + start .args .l .settings .hold ≡ heldUntil (at-view .view-of .result) (start .args .time)
   end-is = ap (λ (v : View). heldUntil v (start .args .time)) (sym view-is)
 
 -- The segment is not refused
 module _ (c : tie.After-enum-told Inv-loop μ-loop) where
-  abbrev judged : tie.After-check-kind Inv-loop μ-loop
-  judged = c .before .before
+  abbrev callCheck : tie.After-check-kind Inv-loop μ-loop
+  callCheck = c .before .before
 
-  clear : refusal (kindChecks (seen judged .view-of .result) (header (named judged) .h .given .0 .0) (kind judged .kind-of .result)) ≡ Clear
-  clear = sym (judged .check-kind .ensures) ∙ c .enum-told .given .1
+  clear : refusal (kindChecks (at-view callCheck .view-of .result) (header (named callCheck) .h .given .0 .0) (kind callCheck .kind-of .result)) ≡ Clear
+  clear = sym (callCheck .check-kind .ensures) ∙ c .enum-told .given .1
 
 -- Its action is known, and the place that it changes
 module _ (c : tie.After-place-of Inv-loop μ-loop) where
@@ -118,12 +118,12 @@ module _ (c : tie.After-place-of Inv-loop μ-loop) where
   told = acted .before .before
 
   abbrev on : tie.After-check-kind Inv-loop μ-loop
-  on = judged told
+  on = callCheck told
 
-  within : c .place-of .result < 64
-  within =
+  in-range : c .place-of .result < 64
+  in-range =
       let a = start on .args in
-      taken-within (a .l) (a .time) (a .src .now) (a .seg .now) (a .iss) (length (a .out .now)) (read (named on) .0) (read (named on) .1) (block-is (named on)) (found on .0) (view-is on) (kind on .kind-of .ensures)
+      taken-in-table (a .l) (a .time) (a .src .now) (a .seg .now) (a .iss) (length (a .out .now)) (read (named on) .0) (read (named on) .1) (block-is (named on)) (found on .0) (view-is on) (kind on .kind-of .ensures)
       (full (named on)) (clear told) (end-is on) (acted .act .result) (acted .act .ensures) (c .place-of .ensures)
 
 receive-requires : tie.Need-receive-requires Inv-loop μ-loop
@@ -148,11 +148,11 @@ enum-known-h c = search needs
 block-of-requires : tie.Need-block-of-requires Inv-loop μ-loop
 block-of-requires c κs = search needs
 
-nothing-seen-requires : tie.Need-nothing-seen-requires Inv-loop μ-loop
-nothing-seen-requires c κs = search needs
+empty-scan-requires : tie.Need-empty-scan-requires Inv-loop μ-loop
+empty-scan-requires c κs = search needs
 
 loop-holds : tie.Need-loop-holds Inv-loop μ-loop
-loop-holds c = looking-start _ _ _ _ (full (c .before)) _ (c .nothing-seen .ensures)
+loop-holds c = loop-start _ _ _ _ (full (c .before)) _ (c .empty-scan .ensures)
 
 mul-s : tie.Need-mul-s Inv-loop μ-loop
 mul-s c = search needs
@@ -160,8 +160,8 @@ mul-s c = search needs
 element-copy-out-s : tie.Need-element-copy-out-s Inv-loop μ-loop
 element-copy-out-s c = search needs
 
-look-requires : tie.Need-look-requires Inv-loop μ-loop
-look-requires c κs = search needs
+scan-slot-requires : tie.Need-scan-slot-requires Inv-loop μ-loop
+scan-slot-requires c κs = search needs
 
 add-i : tie.Need-add-i Inv-loop μ-loop
 add-i c = search needs
@@ -172,16 +172,16 @@ loop-less c = search needs
 loop-again : tie.Need-loop-again Inv-loop μ-loop
 loop-again c =
     let at = c .before .before .before in
-    looking-on _ _ _ (began (blocked at) .args .l .slots) (full (blocked at)) (at .loop .i) _ _ _ (omega arith) (at .loop .inv) (c .look .ensures)
+    loop-on _ _ _ (began (blocked at) .args .l .slots) (full (blocked at)) (at .loop .i) _ _ _ (omega arith) (at .loop .inv) (c .scan-slot .ensures)
 
-within-requires : tie.Need-within-requires Inv-loop μ-loop
-within-requires c κs = search needs
+index-in-table-requires : tie.Need-index-in-table-requires Inv-loop μ-loop
+index-in-table-requires c κs = search needs
 
 mul-s-2 : tie.Need-mul-s-2 Inv-loop μ-loop
-mul-s-2 c = omega (arith, c .within .ensures .1)
+mul-s-2 c = omega (arith, c .index-in-table .ensures .1)
 
 element-copy-out-s-2 : tie.Need-element-copy-out-s-2 Inv-loop μ-loop
-element-copy-out-s-2 c = omega (arith, c .within .ensures .1)
+element-copy-out-s-2 c = omega (arith, c .index-in-table .ensures .1)
 
 slot-found-requires : tie.Need-slot-found-requires Inv-loop μ-loop
 slot-found-requires c κs = search needs
@@ -215,7 +215,7 @@ cast-end : tie.Need-cast-end Inv-loop μ-loop
 cast-end c = search needs
 
 add-end : tie.Need-add-end Inv-loop μ-loop
-add-end c = omega (arith, on-time (named (judged (c .before))))
+add-end c = omega (arith, on-time (named (callCheck (c .before))))
 
 act-requires : tie.Need-act-requires Inv-loop μ-loop
 act-requires c κs = search needs
@@ -224,23 +224,23 @@ place-of-requires : tie.Need-place-of-requires Inv-loop μ-loop
 place-of-requires c κs = search needs
 
 mul-changed : tie.Need-mul-changed Inv-loop μ-loop
-mul-changed c = omega (arith, within c)
+mul-changed c = omega (arith, in-range c)
 
 element-set-from-changed : tie.Need-element-set-from-changed Inv-loop μ-loop
-element-set-from-changed c = omega (arith, within c)
+element-set-from-changed c = omega (arith, in-range c)
 
-is-answered-requires : tie.Need-is-answered-requires Inv-loop μ-loop
-is-answered-requires c κs = search needs
+writes-syn-ack-requires : tie.Need-writes-syn-ack-requires Inv-loop μ-loop
+writes-syn-ack-requires c κs = search needs
 
 returns-3 : tie.Need-returns-3 Inv-loop μ-loop
 returns-3 c =
-    let answered = c .before in
-    let p = answered .before in
+    let outcome = c .before in
+    let p = outcome .before in
     let n = named (on p) in
     let a = start (on p) .args in
-    left-alone (a .out .now) (taken-unanswered (a .l) (a .time) (a .src .now) (a .seg .now) (a .iss) (length (a .out .now)) (read n .0) (read n .1) (block-is n) (found (on p) .0) (view-is (on p)) (kind (on p) .kind-of .ensures)
+    left-alone (a .out .now) (taken-writes-none (a .l) (a .time) (a .src .now) (a .seg .now) (a .iss) (length (a .out .now)) (read n .0) (read n .1) (block-is n) (found (on p) .0) (view-is (on p)) (kind (on p) .kind-of .ensures)
     (full n) (clear (told p)) (end-is (on p)) (acted p .act .result) (acted p .act .ensures) (p .place-of .ensures)
-    (sym (answered .is-answered .ensures) ∙ not-true _ (c .if1 .taken)))
+    (sym (outcome .writes-syn-ack .ensures) ∙ not-true _ (c .if1 .taken)))
 
 write-from-requires : tie.Need-write-from-requires Inv-loop μ-loop
 write-from-requires c κs = search needs
@@ -251,13 +251,13 @@ same-length c = search needs
 returns-4 : tie.Need-returns-4 Inv-loop μ-loop
 returns-4 c =
     let wrote = c .before .before in
-    let answered = wrote .before .before .before in
-    let p = answered .before in
+    let outcome = wrote .before .before .before in
+    let p = outcome .before in
     let n = named (on p) in
     let a = start (on p) .args in
-    written-over (a .out .now) (taken-answered (a .l) (a .time) (a .src .now) (a .seg .now) (a .iss) (length (a .out .now)) (read n .0) (read n .1) (block-is n) (found (on p) .0) (view-is (on p)) (kind (on p) .kind-of .ensures)
+    written-over (a .out .now) (taken-writes (a .l) (a .time) (a .src .now) (a .seg .now) (a .iss) (length (a .out .now)) (read n .0) (read n .1) (block-is n) (found (on p) .0) (view-is (on p)) (kind (on p) .kind-of .ensures)
     (full n) (clear (told p)) (end-is (on p)) (acted p .act .result) (acted p .act .ensures) (p .place-of .ensures)
-    (sym (answered .is-answered .ensures) ∙ not-false _ (wrote .before .before .if1 .left))) (wrote .write-from .ensures)
+    (sym (outcome .writes-syn-ack .ensures) ∙ not-false _ (wrote .before .before .if1 .left))) (wrote .write-from .ensures)
 
 pub segment-spec : {M : Type 1} → statement M
 segment-spec =
@@ -271,15 +271,15 @@ segment-spec =
     returns
     enum-known-h
     block-of-requires
-    nothing-seen-requires
+    empty-scan-requires
     loop-holds
     mul-s
     element-copy-out-s
-    look-requires
+    scan-slot-requires
     add-i
     loop-less
     loop-again
-    within-requires
+    index-in-table-requires
     mul-s-2
     element-copy-out-s-2
     slot-found-requires
@@ -296,7 +296,7 @@ segment-spec =
     place-of-requires
     mul-changed
     element-set-from-changed
-    is-answered-requires
+    writes-syn-ack-requires
     returns-3
     write-from-requires
     same-length

@@ -1,7 +1,7 @@
 -- `listener::calls::set_key` meets its contract: by the checks.
 -- Assumes nothing.
 use mathlib.Core.Path.{sym, _∙_}
-use Rattle.protocol.proofs.Calling.{key-stopped, key-bad, key-done}
+use Rattle.protocol.proofs.Step.{key-stopped, key-bad, key-done}
 use borrow.Author.Needs.{needs}
 use Rattle.listener.proofs.calls.set_key.Statement.{statement}
 use Rattle.listener.proofs.calls.set_key.Tie as tie

@@ -3,7 +3,7 @@
 use mathlib.Core.Path.{sym, _∙_}
 use native.Mathlib.Omega.{arith}
 use borrow.Author.Tests.{not-true, not-false}
-use Rattle.protocol.proofs.Calling.{settings-stopped, settings-bad, settings-done, mss-most}
+use Rattle.protocol.proofs.Step.{settings-stopped, settings-bad, settings-done, mss-most}
 use borrow.Author.Needs.{needs}
 use Rattle.listener.proofs.calls.set_settings.Statement.{statement}
 use Rattle.listener.proofs.calls.set_settings.Tie as tie

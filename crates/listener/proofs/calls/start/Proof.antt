@@ -5,7 +5,7 @@ use borrow.Author.Tests.{not-true, not-false}
 use Rattle.segment.specs.declared.refusal.Check.the-variants.{Clear}
 use Rattle.endpoint.proofs.Blocks.{size-most}
 use Rattle.protocol.specs.declared.state.Listener.{Listener}
-use Rattle.protocol.proofs.Starting.{start-address, start-key, start-done}
+use Rattle.protocol.proofs.StartOf.{start-address, start-key, start-done}
 use borrow.Author.Needs.{needs}
 use Rattle.listener.proofs.calls.start.Statement.{statement}
 use Rattle.listener.proofs.calls.start.Tie as tie

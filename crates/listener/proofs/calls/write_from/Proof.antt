@@ -13,22 +13,22 @@ accepted-with-requires c κs = search needs
 
 array-share-prefix-own : tie.Need-array-share-prefix-own
 array-share-prefix-own c =
-    let h = c .before .before .before .before .before .before .args .home in
+    let h = c .before .before .before .before .before .before .args .local in
     own-most (h .family) (h .own) (c .before .before .size-of .ensures) (search needs)
 
-slice-aggregate-write-answer : tie.Need-slice-aggregate-write-answer
-slice-aggregate-write-answer c =
-    let h = c .before .before .before .before .before .before .before .args .home in
+slice-aggregate-write-syn-ack : tie.Need-slice-aggregate-write-syn-ack
+slice-aggregate-write-syn-ack c =
+    let h = c .before .before .before .before .before .before .before .args .local in
     own-part (h .family) (h .own) (c .before .before .before .size-of .ensures) (search needs)
 
-write-answer-requires : tie.Need-write-answer-requires
-write-answer-requires c κs = search needs
+write-syn-ack-requires : tie.Need-write-syn-ack-requires
+write-syn-ack-requires c κs = search needs
 
 same-length : tie.Need-same-length
 same-length c = search needs
 
 returns : tie.Need-returns
-returns c = rw (c .before .before .before .before .before .accepted-with .ensures, c .before .before .before .before .before .before .size-of .ensures) at (c .before .before .write-answer .ensures)
+returns c = rw (c .before .before .before .before .before .accepted-with .ensures, c .before .before .before .before .before .before .size-of .ensures) at (c .before .before .write-syn-ack .ensures)
 
 pub write-from-spec : {M : Type 1} → statement M
 write-from-spec =
@@ -37,7 +37,7 @@ write-from-spec =
     size-of-requires
     accepted-with-requires
     array-share-prefix-own
-    slice-aggregate-write-answer
-    write-answer-requires
+    slice-aggregate-write-syn-ack
+    write-syn-ack-requires
     same-length
     returns)

@@ -8,7 +8,7 @@ use native.Mathlib.Nat.{add-sub-cancel-left}
 use lib.ListN.{length, take, drop, length-drop}
 use lib.Seq.{take-all}
 use Rattle.segment.specs.Checksum.{onesSum}
-use Rattle.segment.proofs.Sums.{run-on}
+use Rattle.segment.proofs.Total.{run-on}
 use borrow.Author.Needs.{needs}
 use Rattle.segment.proofs.checksum.add_bytes.Statement.{statement}
 use Rattle.segment.proofs.checksum.add_bytes.Tie as tie

@@ -2,7 +2,7 @@
 -- Assumes nothing.
 use mathlib.Core.Path.{_∙_}
 use Rattle.lists.proofs.ByteLists.{bytes-of}
-use Rattle.segment.proofs.Folding.{run-sum}
+use Rattle.segment.proofs.Folded.{run-sum}
 use borrow.Author.Needs.{needs}
 use Rattle.segment.proofs.checksum.add_run.Statement.{statement}
 use Rattle.segment.proofs.checksum.add_run.Tie as tie

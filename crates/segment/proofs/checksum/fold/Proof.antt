@@ -2,7 +2,7 @@
 -- Assumes nothing.
 use mathlib.Core.Path.{refl}
 use native.Mathlib.Omega.{arith}
-use Rattle.segment.proofs.Folding.{two-steps}
+use Rattle.segment.proofs.Folded.{two-steps}
 use borrow.Author.Needs.{needs}
 use Rattle.segment.proofs.checksum.fold.Statement.{statement}
 use Rattle.segment.proofs.checksum.fold.Tie as tie

@@ -5,7 +5,7 @@ use mathlib.Core.Path.{_∙_, sym, ap}
 use lib.Dec.{eqb}
 use borrow.Author.Tests.{not-true, not-false}
 use Rattle.segment.specs.Checksum.{onesSum, checksumRight}
-use Rattle.segment.proofs.Family.{family, segment-parts}
+use Rattle.segment.proofs.OneFamily.{family, segment-parts}
 use borrow.Author.Needs.{needs}
 use Rattle.segment.proofs.checksum.is_checksum_right.Statement.{statement}
 use Rattle.segment.proofs.checksum.is_checksum_right.Tie as tie

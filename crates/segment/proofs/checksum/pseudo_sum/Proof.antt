@@ -3,7 +3,7 @@
 use mathlib.Core.Bool.{true, false}
 use borrow.Author.Needs.{needs}
 use borrow.Author.Tests.{eq-eqb, ne-eqb}
-use Rattle.segment.proofs.Family.{family, pseudo-parts}
+use Rattle.segment.proofs.OneFamily.{family, pseudo-parts}
 use Rattle.segment.proofs.checksum.pseudo_sum.Statement.{statement}
 use Rattle.segment.proofs.checksum.pseudo_sum.Tie as tie
 

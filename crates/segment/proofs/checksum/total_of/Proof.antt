@@ -5,7 +5,7 @@ use mathlib.Core.Path.{_≡_, refl}
 use native.Mathlib.Omega.{arith}
 use lib.ListN.{length, drop}
 use Rattle.segment.specs.Totals.{total}
-use Rattle.segment.proofs.Sums.{total-two, total-last, total-none}
+use Rattle.segment.proofs.Total.{total-two, total-last, total-none}
 use borrow.Author.Needs.{needs}
 use Rattle.segment.proofs.checksum.total_of.Statement.{statement}
 use Rattle.segment.proofs.checksum.total_of.Tie as tie

@@ -2,7 +2,7 @@
 -- Assumes nothing.
 use mathlib.Core.Path.{sym, _∙_}
 use borrow.Author.Tests.{not-true, not-false}
-use Rattle.segment.specs.Header.{synAck}
+use Rattle.segment.specs.Header.{isSynAck}
 use borrow.Author.Needs.{needs}
 use Rattle.segment.proofs.header.is_syn_ack.Statement.{statement}
 use Rattle.segment.proofs.header.is_syn_ack.Tie as tie
@@ -11,32 +11,32 @@ has-bit-requires : tie.Need-has-bit-requires
 has-bit-requires c κs = search needs
 
 returns : tie.Need-returns
-unfolding synAck
+unfolding isSynAck
 returns c = simp (sym (c .before .has-bit .ensures) ∙ not-true _ (c .if1 .taken))
 
 has-bit-requires-2 : tie.Need-has-bit-requires-2
 has-bit-requires-2 c κs = search needs
 
 returns-2 : tie.Need-returns-2
-unfolding synAck
+unfolding isSynAck
 returns-2 c = simp (sym (c .before .before .before .has-bit .ensures) ∙ not-false _ (c .before .before .if1 .left), sym (c .before .has-bit2 .ensures) ∙ not-true _ (c .if2 .taken))
 
 has-bit-requires-3 : tie.Need-has-bit-requires-3
 has-bit-requires-3 c κs = search needs
 
 returns-3 : tie.Need-returns-3
-unfolding synAck
+unfolding isSynAck
 returns-3 c = simp (sym (c .before .before .before .before .before .has-bit .ensures) ∙ not-false _ (c .before .before .before .before .if1 .left), sym (c .before .before .before .has-bit2 .ensures) ∙ not-false _ (c .before .before .if2 .left), sym (c .before .has-bit3 .ensures) ∙ c .if3 .taken)
 
 has-bit-requires-4 : tie.Need-has-bit-requires-4
 has-bit-requires-4 c κs = search needs
 
 returns-4 : tie.Need-returns-4
-unfolding synAck
+unfolding isSynAck
 returns-4 c = simp (sym (c .before .before .before .before .before .before .before .has-bit .ensures) ∙ not-false _ (c .before .before .before .before .before .before .if1 .left), sym (c .before .before .before .before .before .has-bit2 .ensures) ∙ not-false _ (c .before .before .before .before .if2 .left), sym (c .before .before .before .has-bit3 .ensures) ∙ c .before .before .if3 .left, sym (c .before .has-bit4 .ensures) ∙ c .if4 .taken)
 
 returns-5 : tie.Need-returns-5
-unfolding synAck
+unfolding isSynAck
 returns-5 c = simp (sym (c .before .before .before .before .before .before .before .has-bit .ensures) ∙ not-false _ (c .before .before .before .before .before .before .if1 .left), sym (c .before .before .before .before .before .has-bit2 .ensures) ∙ not-false _ (c .before .before .before .before .if2 .left), sym (c .before .before .before .has-bit3 .ensures) ∙ c .before .before .if3 .left, sym (c .before .has-bit4 .ensures) ∙ c .if4 .left)
 
 pub is-syn-ack-spec : {M : Type 1} → statement M

@@ -6,7 +6,7 @@ use native.Mathlib.Omega.{arith}
 use lib.ListN.{drop, length, length-drop}
 use lib.Seq.{take-all}
 use Rattle.segment.specs.Header.{headerLength, payloadOf}
-use Rattle.segment.proofs.Formed.{formed}
+use Rattle.segment.proofs.Malformed.{formed}
 use borrow.Author.Needs.{needs}
 use Rattle.segment.proofs.header.payload.Statement.{statement}
 use Rattle.segment.proofs.header.payload.Tie as tie

@@ -3,7 +3,7 @@
 use mathlib.Core.Path.{sym, _∙_}
 use native.Mathlib.Omega.{arith}
 use Rattle.segment.specs.Header.{shapeOf}
-use Rattle.segment.proofs.Formed.{formed}
+use Rattle.segment.proofs.Malformed.{formed}
 use borrow.Author.Needs.{needs}
 use Rattle.segment.proofs.header.read_header.Statement.{statement}
 use Rattle.segment.proofs.header.read_header.Tie as tie

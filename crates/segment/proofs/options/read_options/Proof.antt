@@ -9,7 +9,7 @@ use mathlib.Core.List.{List}
 use lib.ListN.{length, drop-of-length-le, List·getD-eq-default}
 use Rattle.segment.specs.Bytes.{byteAt}
 use Rattle.segment.specs.Options.{readOptions, readFrom}
-use Rattle.segment.proofs.Reading.{readAt, one-step}
+use Rattle.segment.proofs.ReadFrom.{readAt, one-step}
 use Rattle.segment.proofs.options.read_options.Statement.{statement}
 use Rattle.segment.proofs.options.read_options.Tie as tie
 

@@ -6,13 +6,13 @@ use mathlib.Core.Path.{_≡_}
 use mathlib.Core.List.{List}
 use Rattle.segment.specs.declared.options.Options.{Options}
 use Rattle.segment.specs.declared.options.Mss.{Mss}
-use Rattle.segment.specs.declared.options.FastOpen.{FastOpen}
+use Rattle.segment.specs.declared.options.FastOpenOption.{FastOpenOption}
 use Rattle.segment.specs.Options.{mssOption, fastOpenOption, firstMss, firstFastOpen, withOption}
 use Rattle.segment.proofs.options.with_option.Statement.{statement}
 use Rattle.segment.proofs.options.with_option.Tie as tie
 
 -- the two fields, each from the calls that made it
-both : (found : Options) (area : List ℕ) (i len : ℕ) (m₁ m : Mss) (f₁ f : FastOpen) → m₁ ≡ mssOption area i len → m ≡ firstMss (found .mss) m₁
+both : (found : Options) (area : List ℕ) (i len : ℕ) (m₁ m : Mss) (f₁ f : FastOpenOption) → m₁ ≡ mssOption area i len → m ≡ firstMss (found .mss) m₁
     → f₁ ≡ fastOpenOption area i len → f ≡ firstFastOpen (found .fast) f₁ → record { mss = m; fast = f } ≡ withOption found area i len
 unfolding withOption
 both found area i len m₁ m f₁ f p q r s = cc

@@ -11,7 +11,7 @@ use Rattle.segment.proofs.sequence.in_window.Statement.{statement}
 use Rattle.segment.proofs.sequence.in_window.Tie as tie
 
 -- an answer is the definition's if the difference is on that answer's side of 65,535
-side : (answer : Bool) (expected seq : ℕ) → cond answer (difference seq expected < 65535) (65535 ≤ difference seq expected) → answer ≡ inWindow expected seq
+side : (inside : Bool) (expected seq : ℕ) → cond inside (difference seq expected < 65535) (65535 ≤ difference seq expected) → inside ≡ inWindow expected seq
 unfolding inWindow
 side true expected seq h = sym (lt-ltb _ _ h)
 side false expected seq h = sym (le-ltb _ _ h)

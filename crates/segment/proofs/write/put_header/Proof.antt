@@ -1,6 +1,6 @@
 -- `segment::write::put_header` meets its contract.
 -- Assumes nothing.
-use Rattle.segment.proofs.Family.{family, pseudo-even}
+use Rattle.segment.proofs.OneFamily.{family, pseudo-even}
 use Rattle.segment.proofs.Writes.{header-written}
 use borrow.Author.Needs.{needs}
 use Rattle.segment.proofs.write.put_header.Statement.{statement}

@@ -1,7 +1,7 @@
 -- `segment::write::put_options` meets its contract: four writes, one after the other.
 -- Assumes nothing.
 use borrow.Author.Needs.{needs}
-use Rattle.segment.proofs.Writes.{more, padded-out, options-least, room-for-cookie, room-for-padding, wrote-plain, wrote-fast, overwrote}
+use Rattle.segment.proofs.Writes.{more, padded-out, options-least, cookie-fits, padding-fits, wrote-plain, wrote-fast, overwrote}
 use native.Mathlib.Omega.{arith}
 use mathlib.Core.Path.{refl}
 use mathlib.Core.List.{[], _∷_, _++_}
@@ -38,12 +38,12 @@ returns c =
 add-t21 : tie.Need-add-t21
 add-t21 c =
     let s = c .before .before .before .before .before .before .before .before in
-    omega (arith, room-for-cookie (s .args .mss) (s .args .fast) (s .args .cookie .now) _ (c .if1 .left) (s .pre .0))
+    omega (arith, cookie-fits (s .args .mss) (s .args .fast) (s .args .cookie .now) _ (c .if1 .left) (s .pre .0))
 
 cast-t12-2 : tie.Need-cast-t12-2
 cast-t12-2 c =
     let s = c .before .before .before .before .before .before .before .before in
-    omega (arith, room-for-cookie (s .args .mss) (s .args .fast) (s .args .cookie .now) _ (c .if1 .left) (s .pre .0))
+    omega (arith, cookie-fits (s .args .mss) (s .args .fast) (s .args .cookie .now) _ (c .if1 .left) (s .pre .0))
 
 slice-aggregate-append-2 : tie.Need-slice-aggregate-append-2
 slice-aggregate-append-2 c = search needs
@@ -51,17 +51,17 @@ slice-aggregate-append-2 c = search needs
 append-requires-2 : tie.Need-append-requires-2
 append-requires-2 c κs =
     let s = c .before .before .before .before .before .before .before .before .before .before in
-    omega (arith, room-for-cookie (s .args .mss) (s .args .fast) (s .args .cookie .now) _ (c .before .before .if1 .left) (s .pre .1))
+    omega (arith, cookie-fits (s .args .mss) (s .args .fast) (s .args .cookie .now) _ (c .before .before .if1 .left) (s .pre .1))
 
 append-requires-3 : tie.Need-append-requires-3
 append-requires-3 c κs =
     let s = c .before .before .before .before .before .before .before .before .before .before .before .before .before .before in
-    omega (arith, room-for-cookie (s .args .mss) (s .args .fast) (s .args .cookie .now) _ (c .before .before .before .before .before .before .if1 .left) (s .pre .1))
+    omega (arith, cookie-fits (s .args .mss) (s .args .fast) (s .args .cookie .now) _ (c .before .before .before .before .before .before .if1 .left) (s .pre .1))
 
 pad-requires : tie.Need-pad-requires
 pad-requires c κs =
     let s = c .before .before .before .before .before .before .before .before .before .before .before .before .before .before .before .before .before .before in
-    room-for-padding (s .args .mss) (s .args .fast) (s .args .cookie .now) _ _ (c .before .before .before .before .before .before .before .before .before .before .if1 .left) (omega arith) (omega arith)
+    padding-fits (s .args .mss) (s .args .fast) (s .args .cookie .now) _ _ (c .before .before .before .before .before .before .before .before .before .before .if1 .left) (omega arith) (omega arith)
 
 same-length-2 : tie.Need-same-length-2
 same-length-2 c = search needs

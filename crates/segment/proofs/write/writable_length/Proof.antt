@@ -52,7 +52,7 @@ returns-4 c =
     let a = c .before .before .before .before .before .before .before .before .before .before .args in
     let f = sym (c .before .before .before .before .before .is-one-family .ensures) ∙ not-false _ (c .before .before .before .before .if1 .left) in
     let k = is-allowed (a .f .mss) (a .f .fast) (a .cookie .now) _ (c .before .before .before .option-length .ensures .0) (c .before .before .if2 .left) in
-    let l : a .room < lengthFor (a .f) (a .cookie .now) (a .payload .now) = omega arith in
+    let l : a .out-len < lengthFor (a .f) (a .cookie .now) (a .payload .now) = omega arith in
     rw (f, k .0, lt-leb _ _ l, and-false)
 
 returns-5 : tie.Need-returns-5
@@ -62,7 +62,7 @@ returns-5 c =
     let f = sym (c .before .before .before .before .before .is-one-family .ensures) ∙ not-false _ (c .before .before .before .before .if1 .left) in
     let k = is-allowed (a .f .mss) (a .f .fast) (a .cookie .now) _ (c .before .before .before .option-length .ensures .0) (c .before .before .if2 .left) in
     let h : lengthFor (a .f) (a .cookie .now) (a .payload .now) ≤ 1520 = omega arith in
-    let l : lengthFor (a .f) (a .cookie .now) (a .payload .now) ≤ a .room = omega arith in
+    let l : lengthFor (a .f) (a .cookie .now) (a .payload .now) ≤ a .out-len = omega arith in
     rw (f, k .0, le-leb _ _ h, le-leb _ _ l) (omega arith)
 
 pub writable-length-spec : {M : Type 1} → statement M

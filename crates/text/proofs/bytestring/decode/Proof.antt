@@ -8,7 +8,7 @@ use lib.ListN.{length, drop, take, getD, set, length-set}
 use lib.Seq.{take-length}
 use borrow.Author.Needs.{needs}
 use Rattle.text.specs.ByteString.{nibble, pairBytes}
-use Rattle.text.proofs.Pairs.{half, below-sixteen, pair-put}
+use Rattle.text.proofs.PairBytes.{half, below-sixteen, pair-put}
 use Rattle.text.proofs.bytestring.decode.Statement.{statement}
 use Rattle.text.proofs.bytestring.decode.Tie as tie
 

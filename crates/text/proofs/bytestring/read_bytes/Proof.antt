@@ -8,7 +8,7 @@ use borrow.Author.Tests.{not-true, not-false}
 use borrow.Author.Needs.{needs}
 use Rattle.text.specs.declared.bytestring.ByteString.the-variants.{Count}
 use Rattle.text.specs.ByteString.{pairBytes}
-use Rattle.text.proofs.Pairs.{half, hex-empty, hex-odd, hex-other, hex-all, read-dash, bad-other, bad-long, read-pairs, buffer}
+use Rattle.text.proofs.PairBytes.{half, hex-empty, hex-odd, hex-other, hex-all, read-dash, bad-other, bad-long, read-pairs, buffer}
 use Rattle.text.proofs.bytestring.read_bytes.Statement.{statement}
 use Rattle.text.proofs.bytestring.read_bytes.Tie as tie
 

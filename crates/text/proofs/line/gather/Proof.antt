@@ -1,7 +1,7 @@
 -- `text::line::gather` meets its contract: what was found is what the definition says.
 -- Assumes nothing.
 use native.Mathlib.Omega.{arith}
-use Rattle.text.proofs.Lines.{part-is, cut-off, ended, within}
+use Rattle.text.proofs.Lines.{part-is, cut-off, ended, in-input}
 use borrow.Author.Needs.{needs}
 use Rattle.text.proofs.line.gather.Statement.{statement}
 use Rattle.text.proofs.line.gather.Tie as tie
@@ -28,10 +28,10 @@ returns : tie.Need-returns
 returns c = (cut-off _ (c .before .before .before .before .before .before .before .before .before .before .before .args .from) (c .before .before .before .before .before .before .before .before .before .before .before .args .input .now) _ _ _ (c .before .before .before .before .before .before .before .before .rest .ensures) (c .before .before .before .before .before .before .before .find .ensures .0) (c .before .length-with .ensures) (c .if1 .taken), cc (part-is _ (c .before .before .before .before .before .before .before .before .before .before .before .args .from) (c .before .before .before .before .before .before .before .before .before .before .before .args .input .now) _ _ _ (c .before .before .before .before .before .before .before .before .rest .ensures) (c .before .before .before .before .before .before .before .find .ensures .0) (c .before .length-with .ensures)))
 
 add-t9 : tie.Need-add-t9
-add-t9 c = omega (arith, within _ (c .before .before .before .before .before .before .before .before .before .before .before .args .from) (c .before .before .before .before .before .before .before .before .before .before .before .args .input .now) _ _ _ (c .before .before .before .before .before .before .before .before .rest .ensures) (c .before .before .before .before .before .before .before .find .ensures .0) (c .before .length-with .ensures) (c .if1 .left))
+add-t9 c = omega (arith, in-input _ (c .before .before .before .before .before .before .before .before .before .before .before .args .from) (c .before .before .before .before .before .before .before .before .before .before .before .args .input .now) _ _ _ (c .before .before .before .before .before .before .before .before .rest .ensures) (c .before .before .before .before .before .before .before .find .ensures .0) (c .before .length-with .ensures) (c .if1 .left))
 
 add-t15 : tie.Need-add-t15
-add-t15 c = omega (arith, within _ (c .before .before .before .before .before .before .before .before .before .before .before .args .from) (c .before .before .before .before .before .before .before .before .before .before .before .args .input .now) _ _ _ (c .before .before .before .before .before .before .before .before .rest .ensures) (c .before .before .before .before .before .before .before .find .ensures .0) (c .before .length-with .ensures) (c .if1 .left))
+add-t15 c = omega (arith, in-input _ (c .before .before .before .before .before .before .before .before .before .before .before .args .from) (c .before .before .before .before .before .before .before .before .before .before .before .args .input .now) _ _ _ (c .before .before .before .before .before .before .before .before .rest .ensures) (c .before .before .before .before .before .before .before .find .ensures .0) (c .before .length-with .ensures) (c .if1 .left))
 
 same-length-2 : tie.Need-same-length-2
 same-length-2 c = search needs

@@ -18,10 +18,10 @@ unfolding isSilent
 empty [] h = refl
 empty (b ∷ s) h = absurd (omega arith)
 
-begun : (s : List ℕ) → 0 < length s → eqb (getD s 0 0) 35 ≡ isSilent s
+first-byte : (s : List ℕ) → 0 < length s → eqb (getD s 0 0) 35 ≡ isSilent s
 unfolding isSilent
-begun [] h = absurd (not-suc-le-zero h)
-begun (b ∷ s) h = refl
+first-byte [] h = absurd (not-suc-le-zero h)
+first-byte (b ∷ s) h = refl
 
 returns : tie.Need-returns
 returns c = empty _ (search needs)
@@ -30,7 +30,7 @@ shared-slice-read-result : tie.Need-shared-slice-read-result
 shared-slice-read-result c = search needs
 
 returns-2 : tie.Need-returns-2
-returns-2 c = begun _ (search needs)
+returns-2 c = first-byte _ (search needs)
 
 pub is-silent-spec : {M : Type 1} → statement M
 is-silent-spec = tie.close (tie.spec returns shared-slice-read-result returns-2)

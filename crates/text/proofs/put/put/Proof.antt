@@ -12,8 +12,8 @@ returns c =
     let a = c .before .before .before .args in
     put-past (a .out .now) (a .src .now) (a .at) (omega arith)
 
-sub-room : tie.Need-sub-room
-sub-room c = search needs
+sub-left : tie.Need-sub-left
+sub-left c = search needs
 
 slice-aggregate-copy : tie.Need-slice-aggregate-copy
 slice-aggregate-copy c = simp length-take (omega arith)
@@ -66,7 +66,7 @@ put-spec =
     tie.close
     (tie.spec
     returns
-    sub-room
+    sub-left
     slice-aggregate-copy
     sub-copy
     part-copy-start

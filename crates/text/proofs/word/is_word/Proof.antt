@@ -8,7 +8,7 @@ use lib.ListN.{length, drop}
 use borrow.Author.Needs.{needs}
 use Rattle.lists.specs.Bytes.{sameBytes}
 use Rattle.lists.proofs.SameBytes.{unlike}
-use Rattle.lists.proofs.Comparing.{differ, agree, at-end}
+use Rattle.lists.proofs.CompareLoop.{differ, agree, at-end}
 use Rattle.text.proofs.word.is_word.Statement.{statement}
 use Rattle.text.proofs.word.is_word.Tie as tie
 

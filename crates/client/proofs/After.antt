@@ -1,0 +1,146 @@
+-- What an answer brings to the cache and to the bans, where a ban goes, and what an opening sends. Assumes nothing.
+use Prim.Native.Nat.{ℕ, _≤_, _<_}
+use mathlib.Core.Path.{_≡_, sym, ap, _∙_}
+use mathlib.Core.Bool.{Bool, true, false, cond, not, _||_}
+use mathlib.Core.List.{List}
+use native.Mathlib.Nat.{min-eq-left, min-eq-right}
+use native.Mathlib.Omega.{arith}
+use lib.Dec.{eqb}
+use lib.ListN.{length}
+use borrow.Author.Tests.{eq-eqb, ne-eqb, lt-ltb, le-ltb}
+use Rattle.segment.specs.Header.{optionArea}
+use Rattle.segment.specs.Options.{isCookieLength, cookieBytes, firstMss}
+use Rattle.segment.specs.declared.options.Mss.{Mss}
+use Rattle.segment.specs.declared.options.Options.{Options}
+use Rattle.lists.proofs.Bools.{chosen}
+use Rattle.segment.proofs.Cookie.{cookie-length}
+use Rattle.endpoint.specs.Address.{block, sameName}
+use Rattle.endpoint.specs.declared.address.Family.{Family}
+use Rattle.endpoint.specs.declared.address.Family.the-variants.{V4, V6}
+use Rattle.client.specs.Cache.{entryFor, cookieLength, mostData, dataRoom, learnedFrom, remembered}
+use Rattle.client.specs.Bans.{isLive, isBan, banPlace, freePlace, endsFirst, placeFor, addBan, withBans}
+use Rattle.client.specs.Step.{sentWith, optionsIn, cookieIn, mssIn, isGiven, cacheAfter, isUnacknowledged, bansAfter}
+use Rattle.client.specs.declared.bans.Ban.{Ban}
+use Rattle.client.specs.declared.cache.Entry.{Entry}
+use Rattle.client.specs.declared.state.Memory.{Memory}
+use Rattle.client.proofs.Stores.{cookie-sized}
+
+-- What is stored
+
+module _ (old : Entry) (b cookie : List ℕ) (mss : Mss) {newest : Mss} (e : newest ≡ firstMss mss (old .mss)) where
+  pub learned-none : length cookie ≡ 0 → record { used = true; addr = b; cookie = old .cookie; len = old .len; mss = newest } ≡ learnedFrom old b cookie mss
+  learned-none n = rw (eq-eqb _ _ n, e)
+
+  pub learned-cookie : {c : List ℕ} → (length cookie ≡ 0 → ⊥) → c ≡ block cookie
+      → record { used = true; addr = b; cookie = c; len = length cookie; mss = newest } ≡ learnedFrom old b cookie mss
+  learned-cookie n k = rw (ne-eqb _ _ n, e, k)
+
+module _ (b cookie : List ℕ) (mss : Mss) (es : List Entry) where
+  pub nothing-brought : length cookie ≡ 0 → isGiven mss ≡ false → es ≡ cacheAfter b cookie mss es
+  nothing-brought e k = rw (eq-eqb _ _ e, k)
+
+  pub cookie-brought : (length cookie ≡ 0 → ⊥) → remembered (learnedFrom (entryFor b es) b cookie mss) es ≡ cacheAfter b cookie mss es
+  cookie-brought e = rw (ne-eqb _ _ e)
+
+  pub mss-brought : length cookie ≡ 0 → isGiven mss ≡ true → remembered (learnedFrom (entryFor b es) b cookie mss) es ≡ cacheAfter b cookie mss es
+  mss-brought e k = rw (eq-eqb _ _ e, k)
+
+-- The bans
+
+-- a ban that has ended leaves its place free, and is no ban of a name
+module _ (t : ℕ) (x : Ban) where
+  pub ended : x .end ≤ t → not (isLive t x) ≡ true
+  ended h = ap not (le-ltb _ _ h)
+
+  pub not-ended : t < x .end → not (isLive t x) ≡ false
+  not-ended h = ap not (lt-ltb _ _ h)
+
+  module _ (b : List ℕ) (port : ℕ) where
+    pub is-over : x .end ≤ t → false ≡ isBan t b port x
+    unfolding isBan
+    is-over h = rw (le-ltb _ _ h)
+
+    pub is-on : t < x .end → {k : Bool} → k ≡ sameName (x .port) port (x .addr) b → k ≡ isBan t b port x
+    unfolding isBan
+    is-on h e = rw (lt-ltb _ _ h) e
+
+module _ (m : Memory) (t : ℕ) (b : List ℕ) (port sent count : ℕ) where
+  abbrev Next : Memory
+  Next = withBans m (bansAfter t b port (isUnacknowledged sent count) (m .bans))
+
+  pub no-data : sent ≡ 0 → m ≡ Next
+  no-data e = rw (eq-eqb _ _ e)
+
+  module _ (some : sent ≡ 0 → ⊥) where
+    pub some-acknowledged : (count ≡ 0 → ⊥) → m ≡ Next
+    some-acknowledged k = rw (ne-eqb _ _ some, ne-eqb _ _ k)
+
+    pub none-acknowledged : count ≡ 0 → {next : Memory} → next ≡ withBans m (addBan t b port (m .bans)) → next ≡ Next
+    none-acknowledged k e = rw (ne-eqb _ _ some, eq-eqb _ _ k) e
+
+module _ (t : ℕ) (b : List ℕ) (port : ℕ) (bans : List Ban) {own : ℕ} (eo : own ≡ banPlace t b port bans) where
+  abbrev Place : ℕ
+  Place = placeFor t b port bans
+
+  pub own-place : own < 32 → own ≡ Place
+  own-place h = rw (sym eo, lt-ltb _ _ h)
+
+  module _ (none : 32 ≤ own) {free : ℕ} (ef : free ≡ freePlace t bans) where
+    pub lowest-place : free < 32 → free ≡ Place
+    lowest-place h = rw (sym eo, le-ltb _ _ none, sym ef, lt-ltb _ _ h)
+
+    pub first-place : 32 ≤ free → {first : ℕ} → first ≡ endsFirst bans → first ≡ Place
+    first-place h e = rw (sym eo, le-ltb _ _ none, sym ef, le-ltb _ _ h) e
+
+-- The cookie
+
+module _ (e : Entry) {k : Bool} (is : k ≡ isCookieLength (e .len)) where
+  pub cookie-kept : k ≡ true → e .len ≡ cookieLength e
+  cookie-kept y = rw (sym is ∙ y)
+
+  pub cookie-left : k ≡ false → 0 ≡ cookieLength e
+  cookie-left y = rw (sym is ∙ y)
+
+-- a length that is a cookie's is at most 16
+length-most : (n : ℕ) → cond (isCookieLength n) n 0 ≤ 16
+length-most n = chosen (λ k. k ≤ 16) (isCookieLength n) _ _ (λ q. cookie-length n q .most) (λ _. omega arith)
+
+-- an answer's cookie and MSS, from its options and their area
+pub brought-is : (seg : List ℕ) {o : Options} {area cookie : List ℕ} → o ≡ optionsIn seg → area ≡ optionArea seg → cookie ≡ cookieBytes (o .fast) area
+    → (cookie ≡ cookieIn seg) × (o .mss ≡ mssIn seg)
+brought-is seg eo ea ec = (rw (ec, ea, eo), rw eo)
+
+-- the cookie that an answer brings, and the one that is stored
+pub brought-most : (seg : List ℕ) → length (cookieIn seg) ≤ 16
+brought-most seg = omega (arith, cookie-sized seg, length-most (length (cookieIn seg)))
+
+pub cookie-most : (e : Entry) → cookieLength e ≤ 16
+cookie-most e = length-most (e .len)
+
+-- What is sent: no more data than was offered, and no more than 1,460 bytes
+
+data-most : (f : Family) → mostData f ≤ 1460
+data-most V4 = omega arith
+data-most V6 = omega arith
+
+pub sent-most : (f : Family) (banned : Bool) (e : Entry) (offered : ℕ) → (sentWith f banned e offered ≤ offered) × (sentWith f banned e offered ≤ 1460)
+sent-most f banned e offered =
+    chosen (λ n. (n ≤ offered) × (n ≤ 1460)) (banned || eqb (cookieLength e) 0) _ _
+    (λ _. (omega arith, omega arith)) (λ _. (omega arith, omega (arith, data-most f)))
+
+module _ (f : Family) (e : Entry) (offered : ℕ) {banned : Bool} (free : banned ≡ false) {len : ℕ} (el : len ≡ cookieLength e) where
+  pub sent-none : len ≡ 0 → 0 ≡ sentWith f banned e offered
+  sent-none h = rw (free, sym el, eq-eqb _ _ h)
+
+  module _ (some : len ≡ 0 → ⊥) {most : ℕ} (er : most ≡ dataRoom f e) where
+    pub sent-offered : offered ≤ most → offered ≡ sentWith f banned e offered
+    sent-offered h = rw (free, sym el, ne-eqb _ _ some, sym er) (sym (min-eq-left h))
+
+    pub sent-data-room : most ≤ offered → most ≡ sentWith f banned e offered
+    sent-data-room h = rw (free, sym el, ne-eqb _ _ some, sym er) (sym (min-eq-right h))
+
+pub with-most : (f : Family) (banned : Bool) (e : Entry) (offered : ℕ) {n : ℕ} → n ≡ sentWith f banned e offered
+    → (n ≡ sentWith f banned e offered) × ((n ≤ offered) × (n ≤ 1460))
+with-most f banned e offered k =
+    let most = sent-most f banned e offered in
+    (k, (omega (arith, k, most .0), omega (arith, k, most .1)))

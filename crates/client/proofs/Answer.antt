@@ -1,0 +1,71 @@
+-- Laws for a crate above: a call that is clear, a header that answers an attempt, and what an answer stores. Assumes nothing.
+use Prim.Native.Nat.{ℕ, _≤_}
+use mathlib.Core.Path.{_≡_, refl}
+use mathlib.Core.Bool.{true, false, not, or-true}
+use mathlib.Core.List.{List}
+use native.Mathlib.Omega.{arith}
+use lib.Dec.{leb, eqb}
+use lib.ListN.{length}
+use borrow.Author.Tests.{leb-true, eq-eqb, ne-eqb}
+use Rattle.segment.specs.Refusal.{refusal}
+use Rattle.segment.specs.Options.{isCookieLength}
+use Rattle.segment.specs.declared.refusal.Check.the-variants.{Clear}
+use Rattle.segment.specs.declared.header.Header.{Header}
+use Rattle.segment.specs.declared.options.Mss.{Mss}
+use Rattle.segment.specs.declared.options.Mss.the-variants.{Given}
+use Rattle.lists.proofs.Bools.{and-true}
+use Rattle.segment.proofs.Cookie.{cookie-length}
+use Rattle.endpoint.specs.Address.{block}
+use Rattle.endpoint.proofs.Clear.{Passed, every-check}
+use Rattle.lists.proofs.SameBytes.{same-bytes-refl}
+use Rattle.endpoint.proofs.Names.{short}
+use Rattle.client.specs.Cache.{isFor, entryFor, cookieOf}
+use Rattle.client.specs.Call.{Call, answer}
+use Rattle.client.specs.Refusals.{isMss, isBetween, checks, callCheck}
+use Rattle.client.specs.Step.{cookieIn, mssIn, cacheAfter, storedFor, after}
+use Rattle.client.specs.declared.outcome.Attempt.{Attempt}
+use Rattle.client.specs.declared.cache.Entry.{Entry}
+use Rattle.client.specs.declared.state.Memory.{Memory}
+
+module _ (m : Memory) (c : Call) where
+  -- of a clear call no check applies, and a call is clear where its checks are
+  pub clear-passed : callCheck m c ≡ Clear → Passed (checks m c)
+  unfolding callCheck
+  clear-passed e = every-check (checks m c) e
+
+  pub passed-clear : refusal (checks m c) ≡ Clear → callCheck m c ≡ Clear
+  unfolding callCheck
+  passed-clear e = e
+
+-- own MSS, where it is not refused 12
+pub mss-most : (mss : ℕ) → isMss mss ≡ true → mss ≤ 1460
+unfolding isMss
+mss-most mss e = leb-true mss 1460 (and-true (leb 536 mss) (leb mss 1460) e .1)
+
+-- a header with the attempt's ports, the other way round, is not refused 4
+pub between : (a : Attempt) (h : Header) → h .source ≡ a .dest → h .dest ≡ a .source → isBetween a h ≡ true
+unfolding isBetween
+between a h s d = rw (eq-eqb (h .source) (a .dest) s, eq-eqb (h .dest) (a .source) d)
+
+-- a cookie that comes is the one that is stored then for the address
+cookie-learned : (b c : List ℕ) (mss : Mss) (es : List Entry) → isCookieLength (length c) ≡ true → cookieOf (entryFor b (cacheAfter b c mss es)) ≡ c
+unfolding isFor
+cookie-learned b c mss es e =
+    let n = cookie-length (length c) e in
+    let some : eqb (length c) 0 ≡ false = ne-eqb (length c) 0 (λ z. omega (arith, n .least)) in
+    rw (some, same-bytes-refl b, e) (short (length c) c refl)
+
+pub cookie-stored : (m : Memory) (t : ℕ) (own server : List ℕ) (a : Attempt) (seg : List ℕ) → isCookieLength (length (cookieIn seg)) ≡ true
+    → cookieOf (storedFor (after m (answer t own server a seg)) server) ≡ cookieIn seg
+unfolding after
+cookie-stored m t own server a seg e = cookie-learned (block server) (cookieIn seg) (mssIn seg) (m .cache) e
+
+-- and so is an MSS
+mss-learned : (b c : List ℕ) (v : ℕ) (es : List Entry) → entryFor b (cacheAfter b c (Given v) es) .mss ≡ Given v
+unfolding isFor
+mss-learned b c v es = rw (or-true (not (eqb (length c) 0)), same-bytes-refl b)
+
+pub mss-stored : (m : Memory) (t : ℕ) (own server : List ℕ) (a : Attempt) (seg : List ℕ) (v : ℕ) → mssIn seg ≡ Given v
+    → storedFor (after m (answer t own server a seg)) server .mss ≡ Given v
+unfolding after
+mss-stored m t own server a seg v e = rw e (mss-learned (block server) (cookieIn seg) v (m .cache))

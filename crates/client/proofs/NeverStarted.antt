@@ -1,0 +1,55 @@
+-- A memory that was never started, a start that is refused, and calls that are refused. Assumes nothing.
+use Prim.Native.Nat.{ℕ}
+use mathlib.Core.Path.{_≡_, refl, sym, ap, _∙_}
+use mathlib.Core.Bool.{true, false}
+use mathlib.Core.List.{[]}
+use native.Mathlib.Omega.{arith}
+use Rattle.segment.specs.Refusal.{applies, refusal}
+use Rattle.segment.specs.declared.refusal.Refusal.{Refusal}
+use Rattle.segment.specs.declared.refusal.Refusal.the-variants.{NotStarted}
+use Rattle.segment.specs.declared.refusal.Check.{Check}
+use Rattle.segment.specs.declared.refusal.Check.the-variants.{Clear, Refused}
+use Rattle.segment.proofs.NumberOf.{positive}
+use Rattle.client.specs.Call.{Call, connect, answer, failed, numberOfEvent}
+use Rattle.client.specs.Refusals.{checks, callCheck}
+use Rattle.client.specs.Step.{startedBy, startChecks, startOf, doneEvent, outcomeOf, step, outputIf, outputOf}
+use Rattle.client.specs.declared.state.Memory.{Memory}
+use Rattle.client.specs.declared.outcome.Event.the-variants as events
+
+-- 13 goes before whatever else applies
+never-applies : (m : Memory) (c : Call) → m .started ≡ false → applies (checks m c) NotStarted ≡ true
+never-applies m (connect t own server o offered out-len) e = rw e
+never-applies m (answer t own server a seg) e = rw e
+never-applies m (failed t server port) e = rw e
+
+-- every call on a memory that was never started is refused 13
+pub never-started : (m : Memory) (c : Call) → m .started ≡ false → (step m c .event ≡ events.Refused NotStarted) × (step m c .memory ≡ m)
+unfolding step callCheck
+never-started m c e =
+    let first = never-applies m c e in
+    (rw first, rw first)
+
+-- and such is the memory of a start that is refused
+pub refused-start : (n : ℕ) (r : Refusal) → startOf n .check ≡ Refused r → startOf n .memory .started ≡ false
+unfolding startOf
+refused-start n r e = go (refusal (startChecks n)) e
+  where
+    go : (c : Check) → startedBy n c .check ≡ Refused r → startedBy n c .memory .started ≡ false
+    go Clear q = absurd (let z : _≡_ {A = ℕ} 0 1 = cc in omega arith)
+    go (Refused s) q = refl
+
+-- a call that is done answers 0
+done-number : (m : Memory) (c : Call) → numberOfEvent (doneEvent m c) ≡ 0
+done-number m (connect t own server o offered out-len) = refl
+done-number m (answer t own server a seg) = refl
+done-number m (failed t server port) = refl
+
+-- a call that is refused changes nothing and writes nothing
+pub refused-same : (m : Memory) (c : Call) (r : Refusal) → step m c .event ≡ events.Refused r
+    → (step m c .memory ≡ m) × (step m c .written ≡ 0) × (outputOf m c ≡ [])
+unfolding step outputOf
+refused-same m c r e = go (callCheck m c) e
+  where
+    go : (k : Check) → outcomeOf m c k .event ≡ events.Refused r → (outcomeOf m c k .memory ≡ m) × (outcomeOf m c k .written ≡ 0) × (outputIf m c k ≡ [])
+    go Clear q = absurd (positive r (ap numberOfEvent (sym q) ∙ done-number m c))
+    go (Refused s) q = (refl, refl, refl)

@@ -1,0 +1,50 @@
+-- What a Fast Open option comes to, from what the functions on the way ensure. Assumes nothing.
+use Prim.Native.Nat.{ℕ}
+use mathlib.Core.Path.{_≡_, sym, _∙_}
+use mathlib.Core.Bool.{Bool, true, false, not, _&&_, false≢true, and-false}
+use mathlib.Core.List.{List}
+use Rattle.lists.specs.Bytes.{sameBytes}
+use Rattle.protocol.specs.Cookie.{Carried, nothing, request, cookie, counts, cookieUnder, rightUnder, right}
+use Rattle.cookie.specs.Check.{cookieCheck}
+use Rattle.protocol.proofs.Cookie.{cookie-compared, no-cookie, right-now, right-alone, right-else, never-right}
+use Rattle.protocol.specs.declared.state.Keys.{Keys}
+use Rattle.cookie.specs.declared.OptionCheck.{OptionCheck}
+use Rattle.protocol.specs.declared.outcome.Event.the-variants as events
+
+-- A cookie that was given: it is the present key's, or there is no other key, or it is compared with the previous key's.
+module _ (k : Keys) (b given : List ℕ) {f : List ℕ} (e : f ≡ cookieUnder (k .present) b) where
+  compared : {s : Bool} → sameBytes given f ≡ s → rightUnder (k .present) b (cookie given) ≡ s
+  compared s = cookie-compared (k .present) b given ∙ (rw e at s)
+
+  pub cookie-present : sameBytes given f ≡ true → _≡_ {A = OptionCheck} (record { right = true; fresh = false; cookie = f }) (cookieCheck k b given)
+  cookie-present s = rw (e, right-now k b (cookie given) (compared s), compared s)
+
+  pub cookie-alone : sameBytes given f ≡ false → k .rotated ≡ false → _≡_ {A = OptionCheck} (record { right = false; fresh = true; cookie = f }) (cookieCheck k b given)
+  cookie-alone s r = rw (e, right-alone k b (cookie given) (compared s) r, compared s)
+
+  pub cookie-previous : sameBytes given f ≡ false → k .rotated ≡ true → {g : List ℕ} {same : Bool} → g ≡ cookieUnder (k .previous) b → same ≡ sameBytes given g
+      → _≡_ {A = OptionCheck} (record { right = same; fresh = true; cookie = f }) (cookieCheck k b given)
+  cookie-previous s r p m = rw (e, right-else k b (cookie given) (compared s) r, compared s, cookie-compared (k .previous) b given, m, p)
+
+-- what an option's check is to be, where cookies run or not
+abbrev pub Considered : Bool → Keys → List ℕ → Carried → OptionCheck → Type 0
+Considered run k b o r =
+    (r .right ≡ run && right k b o)
+    × ((r .fresh ≡ run && (counts o && not (rightUnder (k .present) b o)))
+    × (r .fresh ≡ true → r .cookie ≡ cookieUnder (k .present) b))
+
+module _ (run : Bool) (k : Keys) (b : List ℕ) (r : OptionCheck) where
+  none-fresh : r .fresh ≡ false → r .fresh ≡ true → r .cookie ≡ cookieUnder (k .present) b
+  none-fresh f t = absurd (false≢true (sym f ∙ t))
+
+  pub considered-off : (o : Carried) → run ≡ false → r .right ≡ false → r .fresh ≡ false → Considered run k b o r
+  considered-off o n x f = (rw (n, x), (rw (n, f), none-fresh f))
+
+  pub considered-nothing : r .right ≡ false → r .fresh ≡ false → Considered run k b nothing r
+  considered-nothing x f = (rw (never-right k b nothing (λ w. no-cookie w b .0)) (x ∙ sym (and-false run)), (f ∙ sym (and-false run), none-fresh f))
+
+  pub considered-request : run ≡ true → r .right ≡ false → r .fresh ≡ true → r .cookie ≡ cookieUnder (k .present) b → Considered run k b request r
+  considered-request n x f c = (rw (never-right k b request (λ w. no-cookie w b .1)) (x ∙ sym (and-false run)), (rw (n, f, no-cookie (k .present) b .1), λ _. c))
+
+  pub considered-cookie : (given : List ℕ) → run ≡ true → r ≡ cookieCheck k b given → Considered run k b (cookie given) r
+  considered-cookie given n e = (rw (n, e), (rw (n, e), λ _. rw e))

@@ -1,0 +1,48 @@
+// What an answer says, in document 01's numbers, and the part of a segment that it accepted.
+use protocol::outcome::Event;
+use segment::header::payload;
+use segment::refusal::number;
+ghost use mathlib.Core.Path.{_≡_};
+ghost use Rattle.protocol.specs.Call.{numberOfEvent, acceptedOf, acceptedPart};
+
+// The number of an answer: 0 where the call was done.
+pub fn event_number(e: Event) -> u8
+    ensures { λ r. ⌜ r ≡ numberOfEvent e ⌝ }
+{
+    match e {
+        Event::Refused(why) => number(why),
+        Event::FastOpened(_) => 0,
+        Event::Regular => 0,
+        Event::Retransmission => 0,
+        Event::Completed => 0,
+        Event::WasReset => 0,
+        Event::Done => 0,
+    }
+}
+
+// How many bytes of a segment's payload were accepted.
+pub fn accepted_count(e: Event) -> u32
+    ensures { λ r. ⌜ r ≡ acceptedOf e ⌝ }
+{
+    match e {
+        Event::Refused(_) => 0,
+        Event::FastOpened(n) => n,
+        Event::Regular => 0,
+        Event::Retransmission => 0,
+        Event::Completed => 0,
+        Event::WasReset => 0,
+        Event::Done => 0,
+    }
+}
+
+// The bytes that an answer accepted, as a part of its segment; empty where the segment is malformed or has fewer.
+pub fn accepted_part(seg: &[u8], e: Event) -> &[u8]
+    ensures { λ r. ⌜ now r ≡ acceptedPart (now (seg .entry)) e ⌝ }
+{
+    let n = accepted_count(e) as usize;
+    let data = payload(seg);
+    if data.len() < n {
+        return &data[..0];
+    }
+    &data[..n]
+}

@@ -1,0 +1,62 @@
+-- A listener that was never started, a start that is refused, and calls that are refused. Assumes nothing.
+use Prim.Native.Nat.{ℕ}
+use mathlib.Core.Path.{_≡_, refl, sym, ap, _∙_}
+use mathlib.Core.Bool.{Bool, true, false, not, _||_, or-true}
+use mathlib.Core.List.{List, []}
+use native.Mathlib.Omega.{arith}
+use Rattle.segment.specs.Header.{fieldsOf, kindOf}
+use Rattle.segment.specs.Refusal.{applies, refusal}
+use Rattle.segment.specs.declared.refusal.Refusal.{Refusal}
+use Rattle.segment.specs.declared.refusal.Refusal.the-variants.{NotStarted}
+use Rattle.segment.specs.declared.refusal.Check.{Check}
+use Rattle.segment.specs.declared.refusal.Check.the-variants.{Clear, Refused}
+use Rattle.segment.proofs.NumberOf.{done-is-0}
+use Rattle.protocol.specs.Call.{Call, segment, settings, key, abandon, resend, close, numberOfEvent}
+use Rattle.protocol.specs.View.{viewOf}
+use Rattle.protocol.specs.Refusals.{kindChecks, checks, callCheck}
+use Rattle.protocol.specs.Step.{startedBy, startChecks, startOf, outcomeOf, step, outputIf, outputOf}
+use Rattle.protocol.specs.declared.state.View.{View}
+use Rattle.protocol.specs.declared.state.Listener.{Listener}
+use Rattle.protocol.specs.declared.outcome.Event.the-variants as events
+use Rattle.protocol.proofs.DoneEvent.{done-number}
+
+-- 13 goes before whatever else applies
+never-applies : (v : View) (c : Call) → v .local .started ≡ false → applies (checks v c) NotStarted ≡ true
+never-applies v (segment t src seg iss out-len) e =
+    let kind = applies (kindChecks v (fieldsOf seg) (kindOf (fieldsOf seg .flags))) NotStarted in
+    ap (λ (started : Bool). kind || not started) e ∙ or-true kind
+never-applies v (settings t g) e = rw e
+never-applies v (key t k) e = rw e
+never-applies v (abandon t a p) e = rw e
+never-applies v (resend t a p out-len) e = rw e
+never-applies v (close t a p) e = rw e
+
+-- every call on a listener that was never started is refused 13
+pub never-started : (l : Listener) (c : Call) → l .local .started ≡ false → (step l c .event ≡ events.Refused NotStarted) × (step l c .listener ≡ l)
+unfolding step callCheck
+never-started l c e =
+    let first = never-applies (viewOf l c) c e in
+    (rw first, rw first)
+
+-- and such is the listener of a start that is refused
+pub refused-start : (own : List ℕ) (port : ℕ) (k : List ℕ) (r : Refusal) → startOf own port k .check ≡ Refused r
+    → startOf own port k .listener .local .started ≡ false
+unfolding startOf
+refused-start own port k r e = go (refusal (startChecks own k)) e
+  where
+    go : (c : Check) → startedBy own port k c .check ≡ Refused r → startedBy own port k c .listener .local .started ≡ false
+    go Clear q = absurd (let z : _≡_ {A = ℕ} 0 1 = cc in omega arith)
+    go (Refused s) q = refl
+
+-- a call that is refused changes nothing and writes nothing
+pub refused-same : (l : Listener) (c : Call) (r : Refusal) → step l c .event ≡ events.Refused r
+    → (step l c .listener ≡ l) × (step l c .written ≡ 0) × (outputOf l c ≡ [])
+unfolding step outputOf
+refused-same l c r e = go (callCheck l c) e
+  where
+    go : (k : Check) → outcomeOf l c k .event ≡ events.Refused r
+        → (outcomeOf l c k .listener ≡ l) × (outcomeOf l c k .written ≡ 0) × (outputIf (viewOf l c) c k ≡ [])
+    go Clear q =
+        let done = done-is-0 (Refused r) (ap numberOfEvent (sym q) ∙ done-number (viewOf l c) c) in
+        absurd (let z : _≡_ {A = ℕ} 0 1 = cc in omega arith)
+    go (Refused s) q = (refl, refl, refl)

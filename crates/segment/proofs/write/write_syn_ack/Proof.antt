@@ -1,0 +1,61 @@
+-- `segment::write::write_syn_ack` meets its contract.
+-- Assumes nothing.
+use Prim.Native.Nat.{ℕ, _+_}
+use mathlib.Core.Path.{_≡_, ap}
+use mathlib.Core.List.{List, []}
+use lib.ListN.{length}
+use Rattle.segment.specs.Header.{SYN, ACK}
+use Rattle.segment.specs.Write.{written, synAckFields, synAckBytes}
+use Rattle.lists.specs.Bytes.{overwrite}
+use Rattle.segment.specs.declared.write.Outgoing.{Outgoing}
+use Rattle.segment.specs.declared.write.SynAck.{SynAck}
+use borrow.Author.Needs.{needs}
+use Rattle.segment.proofs.write.write_syn_ack.Statement.{statement}
+use Rattle.segment.proofs.write.write_syn_ack.Tie as tie
+
+-- what is written is an answer if its fields are an answer's
+abbrev Wrote : List ℕ → List ℕ → ℕ → List ℕ → Type 0
+Wrote bytes out n end = (n ≡ length bytes) × (end ≡ overwrite bytes out)
+
+as-syn-ack : (src dst cookie out end : List ℕ) (a : SynAck) (f : Outgoing) (n : ℕ) → Wrote (written src dst f cookie [] (length out)) out n end
+    → f ≡ synAckFields a → Wrote (synAckBytes src dst a cookie (length out)) out n end
+unfolding synAckBytes
+as-syn-ack src dst cookie out end a f n w e = rw e at w
+
+next-after-requires : tie.Need-next-after-requires
+next-after-requires c κs = search needs
+
+add-t9 : tie.Need-add-t9
+add-t9 c = search needs
+
+slice-aggregate-write-segment : tie.Need-slice-aggregate-write-segment
+slice-aggregate-write-segment c = search needs
+
+slice-aggregate-write-segment-2 : tie.Need-slice-aggregate-write-segment-2
+slice-aggregate-write-segment-2 c = search needs
+
+write-segment-requires : tie.Need-write-segment-requires
+write-segment-requires c κs = search needs
+
+same-length : tie.Need-same-length
+same-length c = search needs
+
+returns : tie.Need-returns
+returns c =
+    let d = c .before .before .before .before .before .before in
+    let r = d .before .before .before .before .args in
+    let a = r .a in
+    as-syn-ack (r .src .now) (r .dst .now) _ (r .out .now) _ a _ _ (c .before .before .write-segment .ensures)
+    (ap (λ (k : ℕ). record { source = a .source; dest = a .dest; seq = a .iss; ack = k; flags = SYN + ACK; mss = a .mss; fast = a .fresh }) (d .next-after .ensures))
+
+pub write-syn-ack-spec : {M : Type 1} → statement M
+write-syn-ack-spec =
+    tie.close
+    (tie.spec
+    next-after-requires
+    add-t9
+    slice-aggregate-write-segment
+    slice-aggregate-write-segment-2
+    write-segment-requires
+    same-length
+    returns)
