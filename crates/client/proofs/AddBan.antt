@@ -53,7 +53,7 @@ blank-alone =
 pub later-alone : (clock t : ℕ) (bans : List Ban) → clock ≤ t → Alone clock bans → Alone t bans
 later-alone clock t bans h a = record { places = a .places; single = λ u k. a .single u (omega arith) }
 
--- A ban is set at time t₀, and the bans are looked at from then on.
+-- A ban is set at time t₀, and the bans hold from then on.
 module _ (clock t₀ : ℕ) (bans : List Ban) (after : clock ≤ t₀) (a : Alone clock bans) (b₀ : List ℕ) (port₀ : ℕ) where
   abbrev new : Ban
   new = newBan t₀ b₀ port₀

@@ -76,7 +76,7 @@ module _ (d : Ban) (xs : List Ban) where
             let z : j ≡ i = omega (arith, ltb-false j i e) in
             omega (arith, h, ap endAt z)
 
-    -- all places are seen
+    -- after all places
     pub least-end : i ≡ length xs → at ≡ endsFirst xs
     unfolding endsFirst
     least-end h = sym (first-is soonest d xs at (omega (arith, so-far .before, h)) is (λ j k. is-not j k (soonest (getD xs j d)) refl))

@@ -1,4 +1,4 @@
--- After any calls the memory holds what a record of them says, no ban stands twice, and the clock never falls. Assumes nothing.
+-- After any calls the memory holds what a record of them has, no ban stands twice, and the clock never falls. Assumes nothing.
 use Prim.Native.Nat.{ℕ, _≤_}
 use mathlib.Core.Path.{_≡_, refl, ap, _∙_}
 use mathlib.Core.Bool.{Bool, true, false, cond}

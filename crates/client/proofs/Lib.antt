@@ -1,4 +1,4 @@
--- The theorems: History (after any calls the memory holds what a record of them says), Openings (how many bytes an opening has), NeverStarted (a memory that was
+-- The theorems: History (after any calls the memory holds what a record of them has), Openings (how many bytes an opening has), NeverStarted (a memory that was
 -- never started, and calls that are refused) and Answer (an answer that is taken). The others carry these and the functions' proofs.
 pub mod History
 pub mod Openings

@@ -38,7 +38,7 @@ refused-start n r e = go (refusal (startChecks n)) e
     go Clear q = absurd (let z : _≡_ {A = ℕ} 0 1 = cc in omega arith)
     go (Refused s) q = refl
 
--- a call that is done answers 0
+-- a call that is done returns 0
 done-number : (m : Memory) (c : Call) → numberOfEvent (doneEvent m c) ≡ 0
 done-number m (connect t own server o offered out-len) = refl
 done-number m (answer t own server a seg) = refl

@@ -1,4 +1,4 @@
--- What the start and each call answer, refused and done, from what the checks come to. Assumes nothing.
+-- The outcome of the start and of each call, refused and done, from what the checks come to. Assumes nothing.
 use Prim.Native.Nat.{ℕ, _≤_, _^_}
 use mathlib.Core.Path.{_≡_, refl, sym, ap, _∙_}
 use mathlib.Core.Bool.{Bool, true, false}

@@ -1,4 +1,4 @@
--- Document 01, "Client": the calls that carry a time, and what a call answers.
+-- Document 01, "Client": the calls that carry a time, and what an event is in 01's words.
 -- Assumes nothing.
 use Prim.Native.Nat.{ℕ}
 use mathlib.Core.List.{List}

@@ -1,4 +1,4 @@
--- Document 01, "Client", over every list of a memory's calls: what a record of the calls, fed each call and the number answered, says is stored.
+-- Document 01, "Client", over every list of a memory's calls: what a record of the calls, fed each call and the number returned, has as stored.
 -- Assumes nothing.
 use Prim.Native.Nat.{ℕ, _≤_}
 use mathlib.Core.Path.{_≡_}
@@ -42,7 +42,7 @@ storesAfter s (connect t own server o offered out-len) number = s
 storesAfter s (answer t own server a seg) number = cond (eqb number 0) (storesWith s server (cookieIn seg) (mssIn seg)) s
 storesAfter s (failed t server port) number = s
 
--- What it says is stored
+-- What it has as stored
 
 unfoldable pub member : List ℕ → List (List ℕ) → Bool
 member a [] = false
@@ -98,7 +98,7 @@ unfoldable pub run : Memory → List Call → Memory
 run m [] = m
 run m (c ∷ cs) = run (step m c .memory) cs
 
--- the calls with the numbers that they were answered: all that the record is fed
+-- the calls with the numbers that they returned: all that the record is fed
 pub record Fed : Type 0 where
   pub call : Call
   pub number : ℕ

@@ -1,4 +1,4 @@
--- The client's memory, as document 01 defines it. In reading order: the cookie cache; the bans; the calls and what an answer says; the refusals; the call itself;
+-- The client's memory, as document 01 defines it. In reading order: the cookie cache; the bans; the calls and what an event is in 01's words; the refusals; the call itself;
 -- and what holds over every list of calls, by a record of them.
 pub mod Cache
 pub mod Bans

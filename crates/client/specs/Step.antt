@@ -1,4 +1,4 @@
--- Document 01, "Client": the start, and one call on a memory with its answer, the memory next and what is written.
+-- Document 01, "Client": the start, and one call on a memory with its outcome (the memory next and what happened) and what is written.
 -- Assumes nothing.
 use Prim.Native.Nat.{ℕ, min}
 use mathlib.Core.List.{List, [], _∷_}
@@ -39,7 +39,7 @@ use Rattle.client.specs.declared.state.Memory.{Memory}
 abbrev pub blank : Bool → Family → Memory
 blank started f = record { cache = replicate 32 unusedEntry; bans = replicate 32 noBan; started = started; family = f; clock = 0 }
 
--- a memory that was never started: every call on it answers 13
+-- a memory that was never started: every call on it returns 13
 abbrev pub neverStarted : Memory
 neverStarted = blank false V4
 

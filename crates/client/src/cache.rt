@@ -11,7 +11,7 @@ ghost use Prim.Native.Nat.{_≤_};
 ghost use lib.ListN.{length};
 ghost use Rattle.client.specs.Cache.{unusedEntry, isFor, placeOf, entryFor, cookieLength, defaultMss, mostData, mssOr, dataRoom, learnedFrom, remembered, withCache};
 
-// What is stored for a server address, by its block: a cookie, of which the first `len` bytes count, and a maximum segment size if one was seen.
+// What is stored for a server address, by its block: a cookie, of which the first `len` bytes count, and a maximum segment size if one was received.
 pub struct Entry {
     pub used: bool,
     pub addr: [u8; 16],

@@ -1,4 +1,4 @@
-// The start and the calls. Each call carries a time in ms and answers the memory next; a refused one answers the memory as it was and leaves the output alone.
+// The start and the calls. Each call carries a time in ms and returns the memory next; a refused one returns the memory as it was and leaves the output alone.
 use crate::bans::is_banned;
 use crate::bans::no_ban;
 use crate::bans::set_ban;
@@ -112,7 +112,7 @@ fn sent_with(family: Family, banned: bool, e: Entry, offered: usize) -> usize
     if offered < most { offered } else { most }
 }
 
-// Writes an opening to a server, as the memory has it at the time: an output of under 1,504 bytes is refused. The answer says how many bytes of data were sent.
+// Writes an opening to a server, as the memory has it at the time: an output of under 1,504 bytes is refused. The event has how many bytes of data were sent.
 pub fn connect(
     m: Memory,
     time: u64,
@@ -198,7 +198,7 @@ fn ban_if_negative(m: Memory, time: u64, b: [u8; 16], a: Attempt, acknowledged: 
     set_ban(m, time, b, a.dest)
 }
 
-// Takes the answer to an attempt. The answer of the call says how many bytes of the data sent it acknowledges.
+// Takes the answer to an attempt. The event has how many bytes of the data sent it acknowledges.
 pub fn answer(m: Memory, time: u64, own: &[u8], server: &[u8], a: Attempt, seg: &[u8]) -> Outcome
     ensures { λ r. ⌜ r ≡ step m (Call.answer time (now (own .entry)) (now (server .entry)) a (now (seg .entry))) ⌝ }
 {

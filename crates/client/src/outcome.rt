@@ -1,4 +1,4 @@
-// What a call is given and what it answers.
+// What a call is given and what it comes to.
 use crate::state::Memory;
 use segment::refusal::Check;
 use segment::refusal::Refusal;
@@ -30,20 +30,20 @@ pub enum Event {
     Reported,
 }
 
-// A call's answer: the memory next, what happened, and how many bytes were written to the output.
+// A call's result: the memory next, what happened, and how many bytes were written to the output.
 pub struct Outcome {
     pub memory: Memory,
     pub event: Event,
     pub written: usize,
 }
 
-// A start's answer. Where it was refused, every call on the memory is.
+// A start's result. Where it was refused, every call on the memory is.
 pub struct Started {
     pub memory: Memory,
     pub check: Check,
 }
 
-// The number of an answer: 0 where the call was done.
+// The number that a call returns: 0 where the call was done.
 pub fn event_number(e: Event) -> u8
     ensures { λ r. ⌜ r ≡ numberOfEvent e ⌝ }
 {

@@ -1,4 +1,4 @@
--- What the code makes of a cookie that was given, in one answer. No document has it: it carries `right` and `cookieUnder` to the code.
+-- What the code makes of a cookie that was given, in one value. No document has it: it carries `right` and `cookieUnder` to the code.
 -- Assumes nothing.
 use Prim.Native.Nat.{ℕ}
 use mathlib.Core.List.{List}

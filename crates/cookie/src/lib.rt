@@ -48,7 +48,7 @@ fn is_cookie(given: &[u8], cookie: [u8; 8]) -> bool
     same
 }
 
-// What is made of an opening's Fast Open option: whether its cookie is right, and whether a fresh one is to go with the answer.
+// What is made of an opening's Fast Open option: whether its cookie is right, and whether a fresh one is to go with the SYN-ACK.
 pub struct OptionCheck {
     pub right: bool,
     pub fresh: bool,

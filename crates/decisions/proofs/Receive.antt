@@ -73,7 +73,7 @@ module _ (h : LocalEndpoint) (untimely : Bool) (src seg : List ℕ) (out-len : �
             let at : wire h untimely src out-len seg ≡ Clear = rw (w .0, summed ∙ k, yes) in
             ap (λ (y : Header). Read y) (w .1) ∙ carried-on (next ∙ at)
 
--- what `received` says of the checks
+-- `received` by the checks
 pub was-dropped : (c : Check) (h : Header) {r : Refusal} → received c h ≡ Dropped r → c ≡ Refused r
 was-dropped Clear h e = absurd (let z : _≡_ {A = ℕ} 0 1 = cc in omega arith)
 was-dropped (Refused r) h e = let q = e in cc

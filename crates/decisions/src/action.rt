@@ -20,7 +20,7 @@ ghost use lib.ListN.{length};
 ghost use Rattle.protocol.specs.Cookie.{cookieUnder};
 ghost use Rattle.protocol.specs.Step.{cookiesRun, openingEvent, segmentEvent, slotAfter, freshWith, writesSynAck};
 
-// What happened, the connection's slot after it, and the fresh cookie if one goes with the answer.
+// What happened, the connection's slot after it, and the fresh cookie if one goes with the SYN-ACK.
 pub struct Action {
     pub event: Event,
     pub slot: Slot,
@@ -111,7 +111,7 @@ pub fn act(v: View, end: u64, b: [u8; 16], h: Header, iss: u32, seg: &[u8], kind
     }
 }
 
-// Openings are answered.
+// Openings are answered by a SYN-ACK.
 pub fn writes_syn_ack(e: Event) -> bool
     ensures { λ r. ⌜ r ≡ writesSynAck e ⌝ }
 {

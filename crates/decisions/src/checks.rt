@@ -25,7 +25,7 @@ ghost use Rattle.endpoint.specs.Checks.{isUntimely, timely, addressed};
 ghost use Rattle.protocol.specs.Refusals.{inRange, repeats, completes, resets, expected, outputChecks, sequenceChecks, kindChecks, wireChecks};
 ghost use Rattle.decisions.specs.Received.{received};
 
-// 13, 5, 2 and 11: the longest answer has 36 bytes.
+// 13, 5, 2 and 11: the longest SYN-ACK has 36 bytes.
 pub fn check_output(
     local: LocalEndpoint,
     clock: u64,

@@ -1,4 +1,4 @@
-// The listener as a call sees it.
+// What a call's outcome depends on.
 use endpoint::checks::is_untimely;
 use protocol::slots::Scan;
 use protocol::slots::Slot;
@@ -10,7 +10,7 @@ ghost use mathlib.Core.Path.{_≡_};
 ghost use lib.Dec.{ltb};
 ghost use Rattle.endpoint.specs.Checks.{isUntimely};
 
-// What a call sees, given what its scan found and its peer's slot.
+// The view of a call, from what its scan found and its peer's slot.
 pub fn view_of(
     local: LocalEndpoint,
     clock: u64,

@@ -1,4 +1,4 @@
--- Checks one after the other, the first checks of a call, and what they say of its address and time where it is clear. Assumes nothing.
+-- Checks one after the other, the first checks of a call, and what follows for its address and time where it is clear. Assumes nothing.
 use Prim.Native.Nat.{ℕ, _^_, _≤_}
 use mathlib.Core.Path.{_≡_, refl, sym, ap, _∙_}
 use mathlib.Core.Bool.{Bool, true, false, cond, not}

@@ -1,4 +1,4 @@
--- The listener's answer to a new opening, as the client reads it. Assumes nothing.
+-- The listener's SYN-ACK to a new opening, as the client reads it. Assumes nothing.
 use Prim.Native.Nat.{ℕ, _≤_}
 use mathlib.Core.Path.{_≡_, refl, ap, sym, _∙_, subst}
 use mathlib.Core.Bool.{Bool, true, false, cond}

@@ -1,4 +1,4 @@
--- The two ends fit, in the first two segments of a handshake: what the client writes is read by the listener as it was meant, and what the listener answers by the client.
+-- The two ends fit, in the first two segments of a handshake: what the client writes is read by the listener as it was meant, and the listener's SYN-ACK by the client.
 -- Assumes nothing.
 use Prim.Native.Nat.{ℕ, _^_, _≤_, _<_, min}
 use mathlib.Core.Path.{_≡_}
@@ -38,7 +38,7 @@ use Rattle.client.specs.declared.outcome.Attempt.{Attempt}
 use Rattle.client.specs.declared.outcome.Event.the-variants.{Answered}
 use Rattle.client.specs.declared.state.Memory.{Memory}
 
--- The three calls: the client opens, the listener takes the opening, the client takes the answer.
+-- The three calls: the client opens, the listener takes the opening, the client takes the SYN-ACK.
 
 -- what a client is asked for: the time, both addresses, ports and numbers, the data offered, the output's length
 pub record Asked : Type 0 where
@@ -52,7 +52,7 @@ pub record Asked : Type 0 where
 abbrev pub asking : Asked → client-calls.Call
 asking a = connect (a .time) (a .own) (a .server) (a .ends) (a .offered) (a .out-len)
 
--- the opening that it writes, and how many of the bytes offered it says it sent
+-- the opening that it writes, and how many of the bytes offered it sent, by its event
 abbrev pub opening : Memory → Asked → List ℕ
 opening m a = client.outputOf m (asking a)
 
@@ -68,14 +68,14 @@ pub record Arrival : Type 0 where
 abbrev pub arriving : Memory → Asked → Arrival → listener-calls.Call
 arriving m a h = segment (h .time) (a .own) (opening m a) (h .iss) (h .out-len)
 
--- the answer that the listener writes, and how many bytes it accepted
+-- the SYN-ACK that the listener writes, and how many bytes it accepted
 abbrev pub reply : Memory → Listener → Asked → Arrival → List ℕ
 reply m l a h = listener.outputOf l (arriving m a h)
 
 abbrev pub accepted : Memory → Listener → Asked → Arrival → ℕ
 accepted m l a h = acceptedOf (listener.step l (arriving m a h) .event)
 
--- the answer comes to the client, with the attempt as the program kept it
+-- the SYN-ACK comes to the client, with the attempt as the program kept it
 abbrev pub attempted : Memory → Asked → Attempt
 attempted m a = record { source = a .ends .source; dest = a .ends .dest; iss = a .ends .iss; sent = sent m a }
 
@@ -128,7 +128,7 @@ pub record OpeningRead (m : Memory) (a : Asked) : Type 0 where
   pub option : carriedBy (opening m a) ≡ carriedWith (isBanned m a) (stored m a)
   pub content : payloadOf (opening m a) ≡ take (sent m a) (a .offered)
 
--- a listener that was started, a time that it takes, and room for the longest answer
+-- a listener that was started, a time that it takes, and an output for the longest SYN-ACK
 pub record Listens (l : Listener) (h : Arrival) : Type 0 where
   pub started : l .local .started ≡ true
   pub timely : isUntimely (l .clock) (h .time) ≡ false
@@ -147,13 +147,13 @@ pub record Taken (m : Memory) (l : Listener) (a : Asked) (h : Arrival) : Type 0 
   pub new : known (viewOf l (arriving m a h)) ≡ false
   pub iss : h .iss < 2 ^ 32
 
--- the client's memory when the answer comes, whatever came between: started, of the same family, and at a time that it takes
+-- the client's memory when the SYN-ACK comes, whatever came between: started, of the same family, and at a time that it takes
 pub record Later (m m′ : Memory) (t : ℕ) : Type 0 where
   pub started : m′ .started ≡ true
   pub family : m′ .family ≡ m .family
   pub timely : isUntimely (m′ .clock) t ≡ false
 
--- the answer has a fresh cookie
+-- the SYN-ACK has a fresh cookie
 abbrev pub renewed : Memory → Listener → Asked → Arrival → Bool
 renewed m l a h = isFresh (viewOf l (arriving m a h)) (block (a .own)) (opening m a)
 
@@ -207,7 +207,7 @@ pub record Handshake (m : Memory) (l : Listener) (a : Asked) : Type 0 where
   pub checked-by-kind : (h : Arrival) → Listens l h → listener-checks.callCheck l (arriving m a h) ≡ refusal (kindChecks (viewOf l (arriving m a h)) (fieldsOf (opening m a)) Syn)
   -- a cookie that it issued is right
   pub right-cookie : isBanned m a ≡ false → Issued (l .keys) (block (a .own)) (stored m a) → right (l .keys) (block (a .own)) (carriedBy (opening m a)) ≡ true
-  -- the client reads the answer as the listener meant it
+  -- the client reads the SYN-ACK as the listener meant it
   pub answered : (h : Arrival) → Taken m l a h → (m′ : Memory) (t : ℕ) → Later m m′ t → SynAckRead m l a h m′ t
   -- without a cookie, and with one that was issued
   pub requested : (h : Arrival) → Admits m l a h → stored m a ≡ [] → (m′ : Memory) (t : ℕ) → Later m m′ t → CookieRequest m l a h m′ t

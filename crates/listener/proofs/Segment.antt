@@ -1,4 +1,4 @@
--- A segment that passed the checks before its kind: the place that it changes, and what `step` says of it. Assumes nothing.
+-- A segment that passed the checks before its kind: the place that it changes, and its `step`. Assumes nothing.
 use Prim.Native.Nat.{ℕ, _<_}
 use mathlib.Core.Path.{_≡_, refl, sym}
 use mathlib.Core.Bool.{Bool, true, false, _||_, false≢true}
@@ -74,7 +74,7 @@ module _ (l : Listener) (t : ℕ) (scan : Scan) (n : length (l .slots) ≡ 64) w
   changed-is events.Done s h = absurd (omega arith)
   changed-is (events.Refused r) s h = absurd (omega arith)
 
--- A segment that passed the checks before its kind, with what was read and looked up
+-- A segment that passed the checks before its kind, with what was read and found
 module _ (l : Listener) (t : ℕ) (src seg : List ℕ) (iss out-len : ℕ) (first : refusal (wireChecks (l .local) (isUntimely (l .clock) t) src seg out-len) ≡ Clear)
     {h : Header} {b : List ℕ} {scan : Scan} {v′ : View} {k : Kind} (eh : h ≡ fieldsOf seg) (eb : b ≡ block src) (ef : scan ≡ scanOf t b (h .source) (l .slots))
     (ev : v′ ≡ viewFrom l t scan) (ek : k ≡ kindOf (h .flags)) where

@@ -1,4 +1,4 @@
--- What a call looked up: the scan's findings, the peer's slot, and the view made of them. Assumes nothing.
+-- What a call's scan found, the peer's slot, and the view made of them. Assumes nothing.
 use Prim.Native.Nat.{ℕ, _+_, _≤_, _<_}
 use mathlib.Core.Path.{_≡_, refl}
 use mathlib.Core.Bool.{Bool, true, false}
@@ -44,7 +44,7 @@ scan-found l t b p i scan at d n past loop w e =
     let near = w .1 in
     (scan-end t b p (l .slots) i scan (omega arith) (loop .1), slot-read (l .slots) (scan .place) n (w .0) (present (l .slots) at d freeSlot (omega arith)) e)
 
--- What was looked up by a name's block and port, as code does it, is what the definitions look up.
+-- What the code finds by a name's block and port is what the definitions find.
 module _ (l : Listener) (t : ℕ) (a : List ℕ) (p : ℕ) {b : List ℕ} {scan : Scan} {s : Slot} (eb : b ≡ block a) (ef : scan ≡ scanOf t b p (l .slots))
     (es : s ≡ slotAt l (scan .place)) where
   pub peer-slot : s ≡ view l t (record { address = a; port = p }) .slot

@@ -1,4 +1,4 @@
-// The start, the calls and the readings. Each call carries a time in ms and answers the listener next; a refused one answers the listener as it was
+// The start, the calls and the readings. Each call carries a time in ms and returns the listener next; a refused one returns the listener as it was
 // and leaves the output alone.
 //
 // A listener is large, and a function that takes one and indexes its slots copies it. So each call scans the table itself, in the copy that becomes the
@@ -174,7 +174,7 @@ pub fn start(own: &[u8], port: u16, key: &[u8]) -> Started
     }
 }
 
-// Writes the answer from a slot.
+// Writes the SYN-ACK from a slot.
 fn write_from(
     out: &mut [u8],
     local: LocalEndpoint,
@@ -393,7 +393,7 @@ pub fn close(l: Listener, time: u64, addr: &[u8], port: u16) -> Outcome
     free_named(l, time, addr, port, true)
 }
 
-// Writes the answer of a connection whose handshake is not complete once more.
+// Writes the SYN-ACK of a connection whose handshake is not complete once more.
 pub fn resend(l: Listener, time: u64, addr: &[u8], port: u16, out: &mut [u8]) -> Outcome
     ensures { λ r. ⌜ r ≡ step l (Call.resend time (now (addr .entry)) port (length (now (out .entry)))) ⌝ }
     ensures { λ _. ⌜ now (out .exit) ≡ overwrite (outputOf l (Call.resend time (now (addr .entry)) port (length (now (out .entry))))) (now (out .entry)) ⌝ }

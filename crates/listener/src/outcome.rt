@@ -1,11 +1,11 @@
-// What an answer says, in document 01's numbers, and the part of a segment that it accepted.
+// An event in document 01's numbers, and the accepted part of a segment.
 use protocol::outcome::Event;
 use segment::header::payload;
 use segment::refusal::number;
 ghost use mathlib.Core.Path.{_≡_};
 ghost use Rattle.protocol.specs.Call.{numberOfEvent, acceptedOf, acceptedPart};
 
-// The number of an answer: 0 where the call was done.
+// The number that a call returns: 0 where the call was done.
 pub fn event_number(e: Event) -> u8
     ensures { λ r. ⌜ r ≡ numberOfEvent e ⌝ }
 {
@@ -35,7 +35,7 @@ pub fn accepted_count(e: Event) -> u32
     }
 }
 
-// The bytes that an answer accepted, as a part of its segment; empty where the segment is malformed or has fewer.
+// The bytes of a segment that were accepted, as a part of it; empty where the segment is malformed or has fewer.
 pub fn accepted_part(seg: &[u8], e: Event) -> &[u8]
     ensures { λ r. ⌜ now r ≡ acceptedPart (now (seg .entry)) e ⌝ }
 {

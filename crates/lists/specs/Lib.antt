@@ -1,3 +1,3 @@
--- Lists of any elements, then lists of bytes: what the crates above say their own definitions with. No protocol.
+-- Lists of any elements, then lists of bytes: the words of the definitions in the crates above. No protocol.
 pub mod Lists
 pub mod Bytes

@@ -67,12 +67,12 @@ record Agrees (l : Listener) (j : Journal) : Type 0 where
   previous : Previous (l .keys) (j .previous)
   table : Table (l .local .family) (l .clock) (l .slots) (j .entries)
 
--- after a call with this answer
+-- after a call with this event
 record Follows (c : Call) (l : Listener) (e : Event) (j : Journal) (s : Decision) : Type 0 where
   agrees : Agrees l j
   decided : listenerDecision c e ≡ s
 
--- an answer that accepts nothing hands no byte over
+-- an event that accepts nothing hands no byte over
 quiet : {c : Call} {l : Listener} {e : Event} {j : Journal} → acceptedOf e ≡ 0 → Agrees l j
     → Follows c l e j (record { verdict = verdictOf e; accepted = acceptedOf e; part = [] })
 unfolding acceptedPart
@@ -84,7 +84,7 @@ quiet {c} {l} {e} {j} z a = record { agrees = a; decided = λ i. record { verdic
     none : cond (ltb (length bytes) (acceptedOf e)) [] (take (acceptedOf e) bytes) ≡ []
     none = rw z (elim (ltb (length bytes) 0) as (λ b. cond b [] (take 0 bytes) ≡ []) [ true ↦ refl | false ↦ refl ])
 
--- a count within the payload is handed over whole
+-- a count up to the payload's length is handed over whole
 handed : (c : Call) (n : ℕ) → n ≤ length (payloadOf (segmentOf c))
     → listenerDecision c (events.FastOpened n) ≡ record { verdict = early; accepted = n; part = take n (payloadOf (segmentOf c)) }
 unfolding acceptedPart
@@ -135,7 +135,7 @@ reset-thins end p e = go (e .mark)
 
 -- A call that is clear
 
--- after a segment with this answer
+-- after a segment with this event
 abbrev SegmentFollows : Listener → ℕ → List ℕ → List ℕ → ℕ → ℕ → Event → Journal → Decision → Type 0
 SegmentFollows l t src seg iss out-len e j s =
     let p = sender src seg in
@@ -327,7 +327,7 @@ done l j (abandon t b p) a q = quiet refl (released l j t a b p isWaiting refl q
 done l j (resend t b p out-len) a q = quiet refl (moved-agrees l j t (l .slots) (atTime t j .entries) a (unchanged l j t a (on-time l t (q .1 .0))))
 done l j (close t b p) a q = quiet refl (released l j t a b p isEstablished refl q)
 
--- A call, and what the journal makes of the number that it answers
+-- A call, and what the journal makes of the number that it returns
 one : (l : Listener) (j : Journal) (c : Call) → Agrees l j → (r : Check) → callCheck l c ≡ r
     → let o = outcomeOf l c r in
     let n = numberOfEvent (o .event) in

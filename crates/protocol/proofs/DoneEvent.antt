@@ -1,4 +1,4 @@
--- What holds of every answer of a done call. Assumes nothing.
+-- What holds of the event of every done call. Assumes nothing.
 use Prim.Native.Nat.{ℕ}
 use mathlib.Core.Path.{_≡_, refl}
 use mathlib.Core.Bool.{Bool, true, false}
@@ -14,7 +14,7 @@ use Rattle.protocol.specs.declared.state.View.{View}
 use Rattle.protocol.specs.declared.outcome.Event.{Event}
 use Rattle.protocol.specs.declared.outcome.Event.the-variants as events
 
--- what holds of the three verdicts holds of a done opening's answer
+-- what holds of the three verdicts holds of a done opening's event
 pub opening-event : (P : Event → Type 0) → ((n : ℕ) → P (events.FastOpened n)) → P events.Regular → P events.Retransmission
     → (v : View) (b seg : List ℕ) → P (openingEvent (known v) v b seg)
 opening-event P early plain again v b seg = go (known v)

@@ -1,4 +1,4 @@
--- What the answer to a done segment says: its kind, and how many bytes were written. Assumes nothing.
+-- The outcome of a done segment: its kind, and how many bytes were written. Assumes nothing.
 use Prim.Native.Nat.{ℕ}
 use mathlib.Core.Path.{_≡_, refl}
 use mathlib.Core.Bool.{Bool, true, false}
@@ -59,7 +59,7 @@ module _ (l : Listener) (t : ℕ) (src seg : List ℕ) (iss out-len : ℕ) (clea
       syn-ack-bytes own src (synAckFrom (l .local) (l .settings .mss) s fresh) (cookieUnder (l .keys .present) (block src)) out-len
       (family-back src own (right-family src own seg (not-false _ (p .1 .1 .1 .1 .1 .0)))) (cookie-eight (l .keys .present) (block src)) (ltb-false out-len 36 (p .1 .1 .1 .0))
 
-  -- a done opening is answered: 36 bytes with a fresh cookie, 24 without
+  -- a done opening gets a SYN-ACK: 36 bytes with a fresh cookie, 24 without
   pub opening-written : kindOf (fieldsOf seg .flags) ≡ Syn → step l this .written ≡ synAckLength (freshWith v (block src) seg (step l this .event))
   opening-written k =
       let e = segmentEvent v (block src) seg Syn in

@@ -1,4 +1,4 @@
--- New openings: when one is clear, what it is answered, and what it does to the table. Assumes nothing.
+-- New openings: when one is clear, its event, and what it does to the table. Assumes nothing.
 use Prim.Native.Nat.{ℕ, _+_, _≤_, _<_}
 use mathlib.Core.Path.{_≡_, refl, sym, ap, _∙_}
 use mathlib.Core.Bool.{Bool, true, false, not, _&&_, true≢false, and-false}
@@ -109,7 +109,7 @@ pub is-early : (l : Listener) (t : ℕ) (src seg : List ℕ) → l .settings .on
 unfolding isEarly
 is-early l t src seg on below r = rw (on, lt-ltb (pendingAt t (l .slots)) (l .settings .limit) below, r)
 
--- a new opening is early, and its answer has a fresh cookie, where cookies run and by what it carries
+-- a new opening is early, and its SYN-ACK has a fresh cookie, where cookies run and by what it carries
 pub early-is : (v : View) (b seg : List ℕ) → isEarly v b seg ≡ cookiesRun v && right (v .keys) b (carriedBy seg)
 unfolding isEarly
 early-is v b seg = refl
@@ -148,7 +148,7 @@ module _ (l : Listener) (t : ℕ) (src seg : List ℕ) (iss out-len : ℕ) (syn 
         place = ltb-true _ _ (not-false _ (n .1 .1 .1 .1 .1 .1 .1 .1 .1 .1 .1 .0));
       }
 
-  -- what it is answered
+  -- its event
   pub step-new : (early : Bool) → isEarly (view l t (sender src seg)) (block src) seg ≡ early → callCheck l (segment t src seg iss out-len) ≡ Clear
       → step l (segment t src seg iss out-len)
       ≡ record {

@@ -38,7 +38,7 @@ unfolding isFresh
 not-fresh v b seg e = rw e
 
 module _ (l : Listener) (t : ℕ) (src seg : List ℕ) (iss out-len : ℕ) (o : NewOpening l t src seg iss out-len) where
-  -- at the limit an opening is plain, and its answer has no cookie
+  -- at the limit an opening is plain, and its SYN-ACK has no cookie
   at-limit-plain : l .settings .limit ≤ pendingAt t (l .slots)
       → (step l (segment t src seg iss out-len) .event ≡ events.Regular) × (step l (segment t src seg iss out-len) .written ≡ 24)
   at-limit-plain h =

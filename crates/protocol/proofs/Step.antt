@@ -1,4 +1,4 @@
--- What each call answers, refused and done, from what its checks come to. Assumes nothing.
+-- The outcome of each call, refused and done, from what its checks come to. Assumes nothing.
 use Prim.Native.Nat.{ℕ, _≤_}
 use mathlib.Core.Path.{_≡_, refl, sym, ap, _∙_}
 use mathlib.Core.Bool.{Bool, true, false, cond, not, false≢true}
@@ -46,7 +46,7 @@ refusedWith l r = record { listener = l; event = events.Refused r; written = 0 }
 abbrev pub doneWith : Listener → Outcome
 doneWith l = record { listener = l; event = events.Done; written = 0 }
 
--- an answer without a fresh cookie is the same whatever cookie is at hand, and so is one whose cookie is the fresh one
+-- a SYN-ACK without a fresh cookie is the same whatever cookie is at hand, and so is one whose cookie is the fresh one
 pub any-cookie : (own a : List ℕ) (v : View) (s : Slot) (fresh : Bool) (c d : List ℕ) (out-len : ℕ) → (fresh ≡ true → c ≡ d)
     → synAckBytes own a (synAckFrom (v .local) (v .settings .mss) s fresh) c out-len ≡ synAckBytes own a (synAckFrom (v .local) (v .settings .mss) s fresh) d out-len
 any-cookie own a v s true c d out-len e = ap (λ (x : List ℕ). synAckBytes own a (synAckFrom (v .local) (v .settings .mss) s true) x out-len) (e refl)
@@ -212,7 +212,7 @@ module _ (l : Listener) (t : ℕ) where
             let whole = some ∙ sym (rw (slot-is, fresh-is) at same) in
             (rw (next-is, event-is, slot-is, fresh-is) (sym (rw whole at (step-done l this clear))), rw (slot-is, fresh-is) (output-done l this clear ∙ whole))
 
--- An answer and an output that are to be what `step` and `outputOf` say: where nothing is written, and where the answer's bytes are.
+-- An outcome and an output equal to `step` and `outputOf`: where nothing is written, and where a SYN-ACK is.
 
 pub unwritten : {r x s : Outcome} {bytes : List ℕ} (out : List ℕ) → r ≡ x → (s ≡ x) × (bytes ≡ []) → (r ≡ s) × (out ≡ overwrite bytes out)
 unwritten out e q = (e ∙ sym (q .0), ap (λ (z : List ℕ). overwrite z out) (sym (q .1)))
@@ -225,7 +225,7 @@ pub written-over : {l : Listener} {e : Event} {n : ℕ} {s : Outcome} {bytes the
     → (record { listener = l; event = e; written = n } ≡ s) × (last ≡ overwrite bytes out)
 written-over out q w = (rw (w .0) (q .0), w .1 ∙ ap (λ (z : List ℕ). overwrite z out) (sym (q .1)))
 
--- a resent answer, from the slot that was looked up
+-- a SYN-ACK sent again, from the slot that the scan found
 module _ (l : Listener) (t : ℕ) (a : List ℕ) (p out-len : ℕ) (out : List ℕ) where
   abbrev here : View
   here = view l t (record { address = a; port = p })
@@ -242,7 +242,7 @@ module _ (l : Listener) (t : ℕ) (a : List ℕ) (p out-len : ℕ) (out : List �
       let f = rw (ex, same) at e′ in
       (rw (f .0) (sym (q .0)), f .1 ∙ ap (λ (z : List ℕ). overwrite z out) (sym (q .1)))
 
--- what the checks of a clear call say of its address and time
+-- what follows for its address and time from a call's clear checks
 module _ (h : LocalEndpoint) (untimely : Bool) (a : List ℕ) where
   pub output-short-address : (out-len : ℕ) → refusal (timely (h .started) untimely ++ addressed (h .family) a ++ outputChecks out-len) ≡ Clear → length a ≤ 16
   output-short-address out-len e = family-short (h .family) a (not-false _ (every-check (timely (h .started) untimely ++ addressed (h .family) a ++ outputChecks out-len) e .1 .1 .0))

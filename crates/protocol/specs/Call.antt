@@ -1,4 +1,4 @@
--- Document 01, "Listener": the calls that carry a time, and what an answer says.
+-- Document 01, "Listener": the calls that carry a time, and what an event is in 01's words.
 -- Assumes nothing.
 use Prim.Native.Nat.{ℕ}
 use mathlib.Core.List.{List, []}
@@ -37,7 +37,7 @@ timeOf (close t a p) = t
 abbrev pub sender : List ℕ → List ℕ → Peer
 sender src seg = record { address = src; port = fieldsOf seg .source }
 
--- the connection that a call is about; settings and keys are about none, and look nothing up
+-- the connection that a call is about; settings and keys are about none
 abbrev pub peerOf : Call → Peer
 peerOf (segment t src seg iss out-len) = sender src seg
 peerOf (settings t g) = record { address = []; port = 0 }
@@ -46,7 +46,7 @@ peerOf (abandon t a p) = record { address = a; port = p }
 peerOf (resend t a p out-len) = record { address = a; port = p }
 peerOf (close t a p) = record { address = a; port = p }
 
--- What an answer says, in 01's words.
+-- An event in 01's words.
 
 -- the number; 0 is done
 abbrev pub numberOfEvent : Event → ℕ
@@ -101,6 +101,6 @@ acceptedOf Completed = 0
 acceptedOf WasReset = 0
 acceptedOf Done = 0
 
--- The accepted part of a segment by its answer: empty where the payload is shorter than the count. (A segment that is refused 1 has no payload.)
+-- The accepted part of a segment by its event: empty where the payload is shorter than the count. (A segment that is refused 1 has no payload.)
 unfoldable pub acceptedPart : List ℕ → Event → List ℕ
 acceptedPart seg e = cond (ltb (length (payloadOf seg)) (acceptedOf e)) [] (take (acceptedOf e) (payloadOf seg))

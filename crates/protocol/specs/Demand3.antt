@@ -19,11 +19,11 @@ segmentOf (abandon t a p) = []
 segmentOf (resend t a p out-len) = []
 segmentOf (close t a p) = []
 
--- what the listener's answer to a call says
+-- what the listener decides of a call, by its event
 abbrev pub listenerDecision : Call → Event → Decision
 listenerDecision c e = record { verdict = verdictOf e; accepted = acceptedOf e; part = acceptedPart (segmentOf c) e }
 
--- The listener after a list of calls, each on the listener that the last one left, and its answers.
+-- The listener after a list of calls, each on the listener that the last one left, and its decisions.
 unfoldable pub listenerAfter : Listener → List Call → Listener
 listenerAfter l [] = l
 listenerAfter l (c ∷ cs) = listenerAfter (step l c .listener) cs
@@ -32,7 +32,7 @@ unfoldable pub listenerDecisions : Listener → List Call → List Decision
 listenerDecisions l [] = []
 listenerDecisions l (c ∷ cs) = listenerDecision c (step l c .event) ∷ listenerDecisions (step l c .listener) cs
 
--- the calls with the numbers that they were answered: all that the journal is fed
+-- the calls with the numbers that they returned: all that the journal is fed
 pub record Fed : Type 0 where
   pub call : Call
   pub number : ℕ
@@ -41,7 +41,7 @@ unfoldable pub numbered : Listener → List Call → List Fed
 numbered l [] = []
 numbered l (c ∷ cs) = record { call = c; number = numberOfEvent (step l c .event) } ∷ numbered (step l c .listener) cs
 
--- The journal after them, and what it says of each.
+-- The journal after them, and its decision of each.
 unfoldable pub journalAfter : Journal → List Fed → Journal
 journalAfter j [] = j
 journalAfter j (f ∷ fs) = journalAfter (feed j (f .call) (f .number)) fs

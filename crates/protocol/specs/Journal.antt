@@ -1,5 +1,5 @@
 -- Document 01, "Demand 3's book": a record of the calls that is kept apart from the listener. It is fed the start's arguments, each call's and the number
--- answered, and nothing from the slots.
+-- returned, and nothing from the slots.
 -- Assumes nothing.
 use Prim.Native.Nat.{ℕ, zero, suc, _+_, min}
 use mathlib.Core.List.{List, [], _∷_}
@@ -69,7 +69,7 @@ named p e = samePeer p (e .who)
 abbrev pub has : Peer → List Entry → Bool
 has p entries = ltb 0 (tally (named p) entries)
 
--- What becomes of an entry, by rules: it stays, changes or is struck out.
+-- What becomes of an entry, by rules: it stays, changes or is removed (01: struck out).
 
 -- a held one that ends at or before the time is struck out
 abbrev pub keptMark : ℕ → Peer → Mark → List Entry
@@ -151,12 +151,12 @@ noted j (abandon t a p) = amended j (record { address = a; port = p }) removed
 noted j (resend t a p out-len) = j
 noted j (close t a p) = amended j (record { address = a; port = p }) removed
 
--- a call and the number that it was answered: a refused one leaves the journal as it is
+-- a call and the number that it returned: a refused one leaves the journal as it is
 unfoldable pub feed : Journal → Call → ℕ → Journal
 feed j c zero = noted (atTime (timeOf c) j) c
 feed j c (suc n) = j
 
--- What it says of a call's answer: the verdict, the accepted count and the accepted part, that many bytes from the payload's start.
+-- What it decides of a call: the verdict, the accepted count and the accepted part, that many bytes from the payload's start.
 pub record Decision : Type 0 where
   pub verdict : Verdict
   pub accepted : ℕ

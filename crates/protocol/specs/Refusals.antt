@@ -53,7 +53,7 @@ resets s h = eqb (h .seq) (expected s)
 
 -- Checks that calls share
 
--- the longest answer has 36 bytes
+-- 01's answer, the SYN-ACK, has at most 36 bytes
 abbrev pub outputChecks : ℕ → Checks
 outputChecks out-len = (Output, ltb out-len 36) ∷ []
 
@@ -72,7 +72,7 @@ kindChecks v h Ack = sequenceChecks (v .slot) (completes (v .slot) h)
 kindChecks v h Rst = sequenceChecks (v .slot) (resets (v .slot) h)
 kindChecks v h Other = (Flags, true) ∷ []
 
--- what is asked of a segment before its kind is looked at
+-- what is asked of a segment before its kind
 abbrev pub wireChecks : LocalEndpoint → Bool → List ℕ → List ℕ → ℕ → Checks
 wireChecks h untimely src seg out-len =
     timely (h .started) untimely ++ addressed (h .family) src ++ outputChecks out-len

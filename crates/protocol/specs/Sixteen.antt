@@ -46,7 +46,7 @@ pub record CompletesFive (v : View) (h : Header) : Type 0 where
   pub acknowledges : h .ack ≡ nextAfter (v .slot .iss) 0
 
 pub record Sixteen : Type 0 where
-  -- the acknowledgement of an answer to a number with so many bytes accepted
+  -- the acknowledgement of a SYN-ACK for a number with so many bytes accepted
   pub row1 : (a : SynAck) → a .irs ≡ 4294967295 → a .accepted ≡ 0 → synAckFields a .ack ≡ 0
   pub row2 : (a : SynAck) → a .irs ≡ 4294967290 → a .accepted ≡ 10 → synAckFields a .ack ≡ 5
   -- a completion where 5 is expected: admitted, or refused 10
@@ -77,7 +77,7 @@ pub record Sixteen : Type 0 where
       → l .settings .on ≡ true → l .settings .limit ≡ 2 → pendingAt t (l .slots) ≡ 2 → HasRight l src seg
       → (step l (segment t src seg iss out-len) .event ≡ events.Regular)
       × (step l (segment t src seg iss out-len) .written ≡ 24)
-  -- the answer's bytes, in any output that has room for them
+  -- the SYN-ACK's bytes, in any output that is long enough
   pub row16 : (cookie : List ℕ) (out-len : ℕ) → 24 ≤ out-len
       → synAckBytes (192 ∷ 0 ∷ 2 ∷ 2 ∷ []) (192 ∷ 0 ∷ 2 ∷ 1 ∷ [])
       (record { source = 443; dest = 40000; iss = 1000; irs = 4294967295; accepted = 0; mss = 1460; fresh = false }) cookie out-len

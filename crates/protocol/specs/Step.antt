@@ -1,4 +1,4 @@
--- Document 01, "Listener": the start, and one call on a listener with its answer, the listener next and what is written.
+-- Document 01, "Listener": the start, and one call on a listener with its outcome (the listener next and what happened) and what is written.
 -- Assumes nothing.
 use Prim.Native.Nat.{ℕ, _+_, min}
 use mathlib.Core.List.{List, [], _∷_}
@@ -46,7 +46,7 @@ freshSettings = record { on = false; limit = 0; «early_room» = 0; hold = 0; ms
 abbrev pub blank : LocalEndpoint → Keys → Listener
 blank h k = record { slots = replicate 64 freeSlot; keys = k; local = h; settings = freshSettings; clock = 0 }
 
--- one that was never started: every call on it answers 13
+-- one that was never started: every call on it returns 13
 abbrev pub neverStarted : Listener
 neverStarted =
     blank (record { started = false; family = V4; own = replicate 16 0; port = 0 })
@@ -78,7 +78,7 @@ cookiesRun v = v .settings .on && v .below
 unfoldable pub isEarly : View → List ℕ → List ℕ → Bool
 isEarly v b seg = cookiesRun v && right (v .keys) b (carriedBy seg)
 
--- a new opening's answer has a fresh cookie
+-- a new opening's SYN-ACK has a fresh cookie
 unfoldable pub isFresh : View → List ℕ → List ℕ → Bool
 isFresh v b seg = cookiesRun v && (counts (carriedBy seg) && not (rightUnder (v .keys .present) b (carriedBy seg)))
 
@@ -94,7 +94,7 @@ abbrev pub openingEvent : Bool → View → List ℕ → List ℕ → Event
 openingEvent true v b seg = events.Retransmission
 openingEvent false v b seg = newEvent (isEarly v b seg) (accepts (v .settings) seg)
 
--- What a done call answers
+-- The event of a done call
 
 abbrev pub segmentEvent : View → List ℕ → List ℕ → Kind → Event
 segmentEvent v b seg Syn = openingEvent (known v) v b seg
@@ -131,12 +131,12 @@ abbrev pub synAckFrom : LocalEndpoint → ℕ → Slot → Bool → SynAck
 synAckFrom h mss s fresh =
     record { source = h .port; dest = s .port; iss = s .iss; irs = s .irs; accepted = acceptedWith (s .status); mss = mss; fresh = fresh }
 
--- to an address, in an output with so much room; a fresh cookie is the one under the present key
+-- to an address, in an output of this length; a fresh cookie is the one under the present key
 abbrev pub synAckTo : View → List ℕ → Slot → Bool → ℕ → List ℕ
 synAckTo v a s fresh out-len =
     synAckBytes (ownAddress (v .local)) a (synAckFrom (v .local) (v .settings .mss) s fresh) (cookieUnder (v .keys .present) (block a)) out-len
 
--- openings are answered
+-- openings are answered by a SYN-ACK
 abbrev pub writesSynAck : Event → Bool
 writesSynAck (events.FastOpened n) = true
 writesSynAck events.Regular = true
@@ -146,7 +146,7 @@ writesSynAck events.WasReset = false
 writesSynAck events.Done = false
 writesSynAck (events.Refused r) = false
 
--- a new one's answer may have a fresh cookie, a repeat's has none
+-- a new one's SYN-ACK may have a fresh cookie, a repeat's has none
 abbrev pub freshWith : View → List ℕ → List ℕ → Event → Bool
 freshWith v b seg (events.FastOpened n) = isFresh v b seg
 freshWith v b seg events.Regular = isFresh v b seg

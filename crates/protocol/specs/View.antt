@@ -1,4 +1,4 @@
--- Document 01, "Listener": what a call's answer depends on, the listener as the call sees it, at its time and for its peer. No answer says in which place a
+-- Document 01, "Listener": what a call's outcome depends on: the listener at the call's time and for its peer. No outcome depends on the place where a
 -- slot stands.
 -- Assumes nothing.
 use Prim.Native.Nat.{ℕ}

@@ -1,4 +1,4 @@
-// What a call answers.
+// What a call comes to.
 use crate::state::Listener;
 use segment::refusal::Check;
 use segment::refusal::Refusal;
@@ -15,14 +15,14 @@ pub enum Event {
     Done,
 }
 
-// A call's answer: the listener next, what happened, and how many bytes were written to the output.
+// A call's result: the listener next, what happened, and how many bytes were written to the output.
 pub struct Outcome {
     pub listener: Listener,
     pub event: Event,
     pub written: usize,
 }
 
-// A start's answer. Where it was refused, every call on the listener is.
+// A start's result. Where it was refused, every call on the listener is.
 pub struct Started {
     pub listener: Listener,
     pub check: Check,

@@ -82,7 +82,7 @@ pub inside : (area : List ℕ) → AllInside (length area) (readOptions area .fa
 unfolding readOptions
 inside area = from-inside area 0 0 area _ (omega arith) tt
 
--- so it has as many bytes as its length says
+-- so it has as many bytes as its length
 pub cookie-bytes : (area : List ℕ) (at len : ℕ) → Inside (length area) at len → length (cookieBytes (Cookie at len) area) ≡ len
 cookie-bytes area at len h = length-take-le len (drop at area) (omega (arith, length-drop at area))
 

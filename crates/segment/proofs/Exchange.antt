@@ -1,4 +1,4 @@
--- The answer and the opening, written by one end and read by the other. Assumes nothing.
+-- The SYN-ACK and the opening, written by one end and read by the other. Assumes nothing.
 use Prim.Native.Nat.{ℕ, _+_, _^_, _<_, _≤_}
 use mathlib.Core.Path.{_≡_, refl, _∙_}
 use mathlib.Core.Bool.{Bool, true, false}
@@ -21,7 +21,7 @@ use Rattle.segment.proofs.Writes.{options-plain, options-fast}
 use Rattle.segment.proofs.Written.{options-most, segment-length}
 use Rattle.segment.proofs.ReadBack.{Fits, ReadBack, read-back}
 
--- Where there is room
+-- Where the output is long enough
 
 can-write : (src dst : List ℕ) (f : Outgoing) (cookie payload : List ℕ) (out-len : ℕ) → oneFamily src dst ≡ true
     → optionAllowed (f .fast) (length cookie) ≡ true → lengthFor f cookie payload ≤ 1520 → lengthFor f cookie payload ≤ out-len
@@ -58,7 +58,7 @@ syn-ack-most : (fresh : Bool) → synAckLength fresh ≤ 36
 syn-ack-most false = omega arith
 syn-ack-most true = omega arith
 
--- 36 bytes of output are enough for any answer
+-- 36 bytes of output are enough for any SYN-ACK
 pub syn-ack-can : (src dst : List ℕ) (a : SynAck) (cookie : List ℕ) (out-len : ℕ) → oneFamily src dst ≡ true → length cookie ≡ 8 → 36 ≤ out-len
     → canWrite src dst (synAckFields a) cookie [] out-len ≡ true
 syn-ack-can src dst a cookie out-len e l r =
@@ -97,14 +97,14 @@ next-fits : (initial bytes : ℕ) → nextAfter initial bytes < 4294967296
 unfolding nextAfter
 next-fits initial bytes = omega arith
 
--- the fields of an answer and of an opening fit, if their numbers do
+-- the fields of a SYN-ACK and of an opening fit, if their numbers do
 pub syn-ack-fits : (a : SynAck) → a .source < 65536 → a .dest < 65536 → a .iss < 4294967296 → a .mss < 65536 → Fits (synAckFields a)
 syn-ack-fits a s d i m = record { source = s; dest = d; seq = i; ack = next-fits (a .irs) (a .accepted); flags = omega arith; mss = m }
 
 pub opening-fits : (o : Opening) → o .source < 65536 → o .dest < 65536 → o .iss < 4294967296 → o .mss < 65536 → Fits (openingFields o)
 opening-fits o s d i m = record { source = s; dest = d; seq = i; ack = omega arith; flags = omega arith; mss = m }
 
--- the client reads an answer as it was written, and takes it for one
+-- the client reads a SYN-ACK as it was written, and takes it for one
 pub syn-ack-read : (src dst : List ℕ) (a : SynAck) (cookie : List ℕ) (out-len : ℕ) → canWrite src dst (synAckFields a) cookie [] out-len ≡ true
     → Fits (synAckFields a) → Bytes src → Bytes dst → Bytes cookie → ReadBack src dst (synAckFields a) cookie [] (synAckBytes src dst a cookie out-len)
 unfolding synAckBytes has

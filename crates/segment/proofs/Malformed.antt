@@ -72,7 +72,7 @@ shape-number s = go (malformed s)
     go true = refl
     go false = refl
 
--- what a shape says of the segment
+-- what follows for the segment from its shape
 pub ill-shaped : (s : List ℕ) → shapeOf s ≡ Malformed → malformed s ≡ true
 unfolding shapeOf
 ill-shaped s e = go (malformed s) e

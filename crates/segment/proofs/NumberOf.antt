@@ -74,7 +74,7 @@ refused-applies (x ∷ rs) r cs e = go (refused-applies rs r cs) (applies cs x) 
         subst (λ (y : Refusal). applies cs y ≡ true) same q
     go more false q k = more k
 
--- a refusal's number is not 0, so only a call that is done answers 0
+-- a refusal's number is not 0, so only a call that is done returns 0
 pub positive : (r : Refusal) → numberOf r ≡ 0 → ⊥
 positive Format q = omega arith
 positive Address q = omega arith

@@ -74,7 +74,7 @@ pub row12 : (readOptions (34 ∷ []) ≡ nothing) × EarlierStands (34 ∷ [])
 unfolding readOptions readFrom withOption mssOption fastOpenOption cookieAt isCookieLength
 row12 = (refl, λ a b. refl)
 
--- 16: the answer's bytes, in any output that has room for them
+-- 16: the SYN-ACK's bytes, in any output that is long enough
 pub row16 : (cookie : List ℕ) (out-len : ℕ) → 24 ≤ out-len
     → synAckBytes (192 ∷ 0 ∷ 2 ∷ 2 ∷ []) (192 ∷ 0 ∷ 2 ∷ 1 ∷ [])
     (record { source = 443; dest = 40000; iss = 1000; irs = 4294967295; accepted = 0; mss = 1460; fresh = false }) cookie out-len

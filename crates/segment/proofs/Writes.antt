@@ -53,7 +53,7 @@ pub options-least : (mss : ℕ) (fast : Bool) (ck : List ℕ) → 4 ≤ length (
 options-least mss false ck = omega (arith, options-plain mss ck)
 options-least mss true ck = omega (arith, options-fast mss ck)
 
--- an output with room for them has room for each of their parts
+-- an output that is long enough for them is so for each of their parts
 pub cookie-fits : (mss : ℕ) (fast : Bool) (ck : List ℕ) (n : ℕ) → not fast ≡ false → length (optionBytes mss fast ck) ≤ n → 6 + length ck ≤ n
 cookie-fits mss true ck n e h = omega (arith, options-fast mss ck)
 cookie-fits mss false ck n e h = absurd (true≢false e)
@@ -84,7 +84,7 @@ unfolding optionBytes
 wrote-fast o mss true ck n end e w = w
 wrote-fast o mss false ck n end e w = absurd (true≢false e)
 
--- a write's count and its output, as the contracts say them
+-- a write's count and its output, as the contracts have them
 pub overwrote : (o a : List ℕ) (n : ℕ) (end : List ℕ) → Wrote o a n end → (n ≡ length a) × (end ≡ overwrite a o)
 overwrote o a n end w = (w .0, w .1 ∙ ap (λ (k : ℕ). a ++ drop k o) (w .0))
 

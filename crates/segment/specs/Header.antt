@@ -79,6 +79,6 @@ kindOf flags =
     (cond (has flags ACK || (has flags RST || has flags FIN)) Other Syn)
     (cond (has flags RST) Rst (cond (has flags ACK) Ack Other))
 
--- what a client takes for an answer: SYN and ACK, no RST or FIN
+-- 01's answer as a client takes it: SYN and ACK, no RST or FIN
 unfoldable pub isSynAck : ℕ → Bool
 isSynAck flags = has flags SYN && (has flags ACK && not (has flags RST || has flags FIN))

@@ -25,7 +25,7 @@ numberOf Output = 11
 numberOf Range = 12
 numberOf NotStarted = 13
 
--- the order in which they are looked for
+-- the order in which they apply
 abbrev pub order : List Refusal
 order =
     NotStarted ∷ Time ∷ Address ∷ Output ∷ Format ∷ Checksum ∷ Port ∷ Flags
@@ -52,7 +52,7 @@ firstOf (r ∷ rs) cs = cond (applies cs r) (Refused r) (firstOf rs cs)
 abbrev pub refusal : Checks → Check
 refusal cs = firstOf order cs
 
--- the number answered; 0 is done
+-- the number returned; 0 is done
 abbrev pub checkNumber : Check → ℕ
 checkNumber Clear = 0
 checkNumber (Refused r) = numberOf r

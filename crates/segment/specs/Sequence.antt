@@ -4,7 +4,7 @@ use Prim.Native.Nat.{ℕ, _+_, _-_, _%_, _^_}
 use mathlib.Core.Bool.{Bool}
 use lib.Dec.{ltb}
 
--- The number after an initial number and so many bytes: what an answer acknowledges, and what the next segment is expected to begin with (RCV.NXT).
+-- The number after an initial number and so many bytes: what a SYN-ACK acknowledges, and what the next segment is expected to begin with (RCV.NXT).
 unfoldable pub nextAfter : ℕ → ℕ → ℕ
 nextAfter initial bytes = (initial + 1 + bytes) % 2 ^ 32
 
@@ -16,6 +16,6 @@ difference a b = (a + 2 ^ 32 - b) % 2 ^ 32
 unfoldable pub inWindow : ℕ → ℕ → Bool
 inWindow expected seq = ltb (difference seq expected) 65535
 
--- how many of the bytes sent with an opening its answer acknowledges: acknowledgement − our number − 1
+-- how many of the bytes sent with an opening its SYN-ACK acknowledges: acknowledgement − our number − 1
 unfoldable pub acknowledged : ℕ → ℕ → ℕ
 acknowledged iss ack = difference (difference ack iss) 1

@@ -62,14 +62,14 @@ abbrev pub lengthFor : Outgoing → List ℕ → List ℕ → ℕ
 lengthFor f cookie payload = 20 + length (optionsFor f cookie) + length payload
 
 -- A segment is written where its addresses are of one family, it may have its options, it has no more than the 1,520 bytes that are
--- read, and the output has room for it.
+-- read, and the output is long enough for it.
 unfoldable pub canWrite : List ℕ → List ℕ → Outgoing → List ℕ → List ℕ → ℕ → Bool
 canWrite src dst f cookie payload out-len =
     oneFamily src dst
     && (optionAllowed (f .fast) (length cookie)
     && (leb (lengthFor f cookie payload) 1520 && leb (lengthFor f cookie payload) out-len))
 
--- the bytes that are written to an output with so much room; none where the segment is not written
+-- the bytes that are written to an output of this length; none where the segment is not written
 unfoldable pub written : List ℕ → List ℕ → Outgoing → List ℕ → List ℕ → ℕ → List ℕ
 written src dst f cookie payload out-len =
     cond (canWrite src dst f cookie payload out-len) (segmentBytes src dst f (optionsFor f cookie) payload) []

@@ -155,7 +155,7 @@ pub fn kind_of(flags: u8) -> Kind
     Kind::Other
 }
 
-// Whether the flags are those of an answer to an opening.
+// Whether the flags are those of a SYN-ACK.
 pub fn is_syn_ack(flags: u8) -> bool
     ensures { λ r. ⌜ r ≡ isSynAck flags ⌝ }
 {

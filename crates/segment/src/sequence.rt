@@ -22,7 +22,7 @@ pub fn in_window(expected: u32, seq: u32) -> bool
     true
 }
 
-// How many bytes sent with an opening its answer acknowledges. (More than were sent is for the caller to refuse.)
+// How many bytes sent with an opening its SYN-ACK acknowledges. (More than were sent is for the caller to refuse.)
 pub fn acknowledged_bytes(iss: u32, ack: u32) -> u32
     ensures { λ r. ⌜ r ≡ acknowledged iss ack ⌝ }
 {

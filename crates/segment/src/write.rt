@@ -1,7 +1,7 @@
-// The segments that are written: the listener's answer and the client's opening (RFC 9293, 3.1; RFC 7413, 4.1.1).
+// The segments that are written: the listener's SYN-ACK and the client's opening (RFC 9293, 3.1; RFC 7413, 4.1.1).
 //
-// A write leaves its bytes at the output's start and the later bytes as they were, and answers how many bytes it wrote. Nothing is
-// written, and the answer is 0, where the output is too short, the addresses are not of one family, a Fast Open option is asked for that
+// A write leaves its bytes at the output's start and the later bytes as they were, and returns how many bytes it wrote. Nothing is
+// written, and 0 returned, where the output is too short, the addresses are not of one family, a Fast Open option is asked for that
 // may not have a cookie of that length, or the segment would have more than 1,520 bytes (`canWrite` in specs/Write.antt).
 use crate::checksum::add_bytes;
 use crate::checksum::is_one_family;
@@ -19,7 +19,7 @@ ghost use Rattle.segment.specs.Checksum.{onesSum, complement, oneFamily,
 ghost use Rattle.segment.specs.Write.{padding, optionBytes, headerBytes, optionsFor, lengthFor, optionAllowed, canWrite, written, synAckBytes, openingBytes};
 ghost use Rattle.lists.specs.Bytes.{overwrite};
 
-// What a segment is to say, besides its cookie and its data. `fast`: with a Fast Open option.
+// The fields of a segment to write, besides its cookie and its data. `fast`: with a Fast Open option.
 pub(crate) struct Outgoing {
     pub source: u16,
     pub dest: u16,
@@ -30,7 +30,7 @@ pub(crate) struct Outgoing {
     pub fast: bool,
 }
 
-// An answer: both initial numbers, how many bytes of data were accepted, and whether a fresh cookie goes with it.
+// A SYN-ACK, document 01's answer: both initial numbers, how many bytes of data were accepted, and whether a fresh cookie goes with it.
 pub struct SynAck {
     pub source: u16,
     pub dest: u16,
@@ -50,7 +50,7 @@ pub struct Opening {
     pub fast: bool,
 }
 
-// Puts bytes at a place, and says where they end.
+// Puts bytes at a place, and returns the place after them.
 fn append(out: &mut [u8], at: usize, src: &[u8]) -> usize
     requires { ⌜ at + length (now src) ≤ length (now out) ⌝ }
     ensures { λ r. ⌜ r ≡ at + length (now (src .entry)) ⌝ }
@@ -160,7 +160,7 @@ fn option_length(f: Outgoing, cookie: &[u8]) -> usize
     4 + (n + 5) / 4 * 4
 }
 
-// The length of a segment that can be written to an output with so much room, else 0.
+// The length of a segment that can be written to an output of this length, else 0.
 fn writable_length(
     src: &[u8],
     dst: &[u8],
@@ -188,7 +188,7 @@ fn writable_length(
     n
 }
 
-// Writes a segment; nothing, and answers 0, where it cannot be written.
+// Writes a segment; nothing, and returns 0, where it cannot be written.
 fn write_segment(
     out: &mut [u8],
     src: &[u8],
@@ -209,7 +209,7 @@ fn write_segment(
     n
 }
 
-// Writes the answer to an opening: 24 bytes, or 36 with a fresh cookie; none, and answers 0, where it cannot be written.
+// Writes the SYN-ACK to an opening: 24 bytes, or 36 with a fresh cookie; none, and returns 0, where it cannot be written.
 pub fn write_syn_ack(out: &mut [u8], src: &[u8], dst: &[u8], a: SynAck, cookie: [u8; 8]) -> usize
     ensures { λ r. ⌜ r ≡ length (synAckBytes (now (src .entry)) (now (dst .entry)) a cookie (length (now (out .entry)))) ⌝ }
     ensures { λ _. ⌜ now (out .exit) ≡ overwrite (synAckBytes (now (src .entry)) (now (dst .entry)) a cookie (length (now (out .entry)))) (now (out .entry)) ⌝ }
@@ -226,7 +226,7 @@ pub fn write_syn_ack(out: &mut [u8], src: &[u8], dst: &[u8], a: SynAck, cookie: 
     write_segment(out, src, dst, f, &cookie, &src[..0])
 }
 
-// Writes an opening with its options and its payload; nothing, and answers 0, where it cannot be written.
+// Writes an opening with its options and its payload; nothing, and returns 0, where it cannot be written.
 pub fn write_opening(
     out: &mut [u8],
     src: &[u8],

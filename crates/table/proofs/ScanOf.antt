@@ -1,4 +1,4 @@
--- One scan of the table finds what `scanOf` says. Assumes nothing.
+-- One scan of the table finds `scanOf`. Assumes nothing.
 use Prim.Native.Nat.{ℕ, suc, _+_, _≤_, _<_}
 use mathlib.Core.Path.{_≡_, refl, sym, _∙_}
 use mathlib.Core.Bool.{Bool, true, false, cond, not, false≢true}

@@ -1,4 +1,4 @@
-// What a status says at a time, and the three makers of a slot: free, new, and with another status.
+// What a status means at a time, and the three makers of a slot: free, new, and with another status.
 use protocol::slots::Slot;
 use protocol::slots::Status;
 ghost use mathlib.Core.Path.{_≡_};

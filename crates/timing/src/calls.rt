@@ -30,7 +30,7 @@ fn checksum_field(written: usize, out: &[u8; 36]) -> u64 {
     wide(out[16]) * 256 + wide(out[17])
 }
 
-// A digest with what one call answered.
+// A digest with the outcome of one more call.
 fn add(digest: u64, event: Event, written: usize, out: &[u8; 36]) -> u64 {
     let verdict = wrapping_add_u64(wide(event_number(event)), accepted_count(event) as u64);
     let output = wrapping_add_u64(written as u64, checksum_field(written, out));
@@ -53,7 +53,7 @@ fn empty_listener() -> Listener {
     o.listener
 }
 
-// The cookie of the peer's address, from the answer to a request.
+// The cookie of the peer's address, from the SYN-ACK to a request.
 fn cookie_of_peer(peer: &[u8; 4]) -> [u8; 8] {
     let mut request = [0u8; 1520];
     let n = data::put_opening(&mut request, peer, data::PEER_PORT, &[], &[]);
@@ -225,7 +225,7 @@ pub(crate) fn repeat(peer: &[u8; 4], count: u64, live: u64, payload: u64) -> u64
     take_again(opened.listener, peer, count, seg)
 }
 
-// The sequence number of a completion follows the bytes that its opening's answer accepts.
+// The sequence number of a completion follows the bytes that its opening's SYN-ACK acknowledges.
 pub(crate) fn completion(peer: &[u8; 4], count: u64, live: u64, payload: u64) -> u64 {
     let mut opening = [0u8; 1520];
     let n = put_early(&mut opening, peer, payload);

@@ -78,7 +78,7 @@ fn work_asked() -> Work {
     work_of(&word[..n])
 }
 
-// The number that an argument says.
+// The number in an argument.
 fn number_asked(place: usize, most: u64) -> Number {
     let mut word = [0u8; 32];
     let n = os::arg(place, &mut word);

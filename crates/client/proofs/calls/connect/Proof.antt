@@ -70,7 +70,7 @@ module _ (c : tie.After-block-of) where
       let a = start .args in
       open-kept (a .m) (a .time) (a .own .now) (a .server .now) (a .o) (a .offered .now) (a .out .now) (clear (told c)) (c .block-of .ensures)
 
--- the ban and the entry were looked up, and how much data goes
+-- the ban and the entry were found, and how much data goes
 module _ (c : tie.After-sent-with) where
   abbrev named-at : tie.After-block-of
   named-at = blocked (banned (found c))

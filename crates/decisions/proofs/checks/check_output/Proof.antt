@@ -1,4 +1,4 @@
--- `decisions::checks::check_output` meets its contract: the checks before, then the room.
+-- `decisions::checks::check_output` meets its contract: the checks before, then the output's length.
 -- Assumes nothing.
 use mathlib.Core.Path.{sym, _∙_}
 use Rattle.endpoint.specs.Checks.{isUntimely}

@@ -22,7 +22,7 @@ use Rattle.decisions.proofs.Receive.{dropped-before, dropped-shape, dro
 use Rattle.decisions.proofs.checks.receive.Statement.{statement}
 use Rattle.decisions.proofs.checks.receive.Tie as tie
 
--- At the entry: what is to be answered
+-- At the entry: the result that is due
 module _ (s : tie.Start) where
   abbrev late : Bool
   late = isUntimely (s .args .clock) (s .args .time)
@@ -30,7 +30,7 @@ module _ (s : tie.Start) where
   abbrev result : Received
   result = received (refusal (wireChecks (s .args .local) late (s .args .src .now) (s .args .seg .now) (s .args .out-len))) (fieldsOf (s .args .seg .now))
 
--- The first checks have answered
+-- After the first checks
 abbrev entry : tie.After-check-output → tie.Start
 entry c = c .before .before .before
 
@@ -56,7 +56,7 @@ module _ (c : tie.After-h) where
 abbrev sized : tie.After-size-of → tie.After-h
 sized c = c .before .before .before
 
--- Its checksum has been looked at
+-- After the checksum
 module _ (c : tie.After-is-checksum-right) where
   abbrev formed : tie.After-h
   formed = sized (c .before .before)

@@ -29,7 +29,7 @@ Inv-loop time addr port established next b scan₀ i₀ scan i = ScanLoop time b
 abbrev μ-loop : tie.MeasureT-loop
 μ-loop time addr port established next b scan₀ i₀ scan i = 64 - i
 
--- The first checks have answered
+-- After the first checks
 abbrev entry : tie.After-check-name Inv-loop μ-loop → tie.Start Inv-loop μ-loop
 entry c = c .before .before .before
 

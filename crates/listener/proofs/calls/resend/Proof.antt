@@ -27,7 +27,7 @@ Inv-loop time addr port out local next b scan₀ i₀ scan i = ScanLoop time b p
 abbrev μ-loop : tie.MeasureT-loop
 μ-loop time addr port out local next b scan₀ i₀ scan i = 64 - i
 
--- The first checks have answered
+-- After the first checks
 abbrev entry : tie.After-check-output Inv-loop μ-loop → tie.Start Inv-loop μ-loop
 entry c = c .before .before .before .before
 

@@ -32,7 +32,7 @@ Inv-loop time src seg iss out local h next b scan₀ i₀ scan i = ScanLoop time
 abbrev μ-loop : tie.MeasureT-loop
 μ-loop time src seg iss out local h next b scan₀ i₀ scan i = 64 - i
 
--- The first checks have answered
+-- After the first checks
 abbrev entry : tie.After-receive Inv-loop μ-loop → tie.Start Inv-loop μ-loop
 entry c = c .before .before .before .before .before
 

@@ -1,4 +1,4 @@
--- `listener::calls::write_from` meets its contract: the answer's fields come from the slot.
+-- `listener::calls::write_from` meets its contract: the SYN-ACK's fields come from the slot.
 -- Assumes nothing.
 use Rattle.endpoint.proofs.Blocks.{own-most, own-part}
 use borrow.Author.Needs.{needs}

@@ -10,7 +10,7 @@ use borrow.Author.Needs.{needs}
 use Rattle.segment.proofs.sequence.in_window.Statement.{statement}
 use Rattle.segment.proofs.sequence.in_window.Tie as tie
 
--- an answer is the definition's if the difference is on that answer's side of 65,535
+-- a result is the definition's if the difference is on its side of 65,535
 side : (inside : Bool) (expected seq : ℕ) → cond inside (difference seq expected < 65535) (65535 ≤ difference seq expected) → inside ≡ inWindow expected seq
 unfolding inWindow
 side true expected seq h = sym (lt-ltb _ _ h)

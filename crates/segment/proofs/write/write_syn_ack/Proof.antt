@@ -13,7 +13,7 @@ use borrow.Author.Needs.{needs}
 use Rattle.segment.proofs.write.write_syn_ack.Statement.{statement}
 use Rattle.segment.proofs.write.write_syn_ack.Tie as tie
 
--- what is written is an answer if its fields are an answer's
+-- what is written is a SYN-ACK if its fields are a SYN-ACK's
 abbrev Wrote : List ℕ → List ℕ → ℕ → List ℕ → Type 0
 Wrote bytes out n end = (n ≡ length bytes) × (end ≡ overwrite bytes out)
 
