@@ -19,7 +19,7 @@ use Rattle.endpoint.specs.Address.{isAddress}
 use Rattle.endpoint.specs.Checks.{timely, addressed}
 use Rattle.endpoint.specs.declared.address.Family.{Family}
 use Rattle.endpoint.proofs.Chain.{andThen, chain, chain-into, chain-then, stopped, passed, only, timed}
-use Rattle.client.specs.Refusals.{isMss, isBetween, countIn, pairChecks, openChecks, wireChecks, replyChecks, answerChecks, judgedReply}
+use Rattle.client.specs.Refusals.{isMss, isBetween, countIn, pairChecks, openChecks, wireChecks, replyChecks, answerChecks, replyFrom}
 use Rattle.client.specs.declared.outcome.Attempt.{Attempt}
 use Rattle.client.specs.declared.checks.Reply.{Reply}
 use Rattle.client.specs.declared.checks.Reply.the-variants.{Dropped, Acknowledged}
@@ -105,13 +105,13 @@ module _ (started untimely : Bool) (f : Family) (own server : List ℕ) where
     answer-check : Answer ≡ andThen Pair Segment
     answer-check = chain-then paired _
 
-    checkedReply : {x y : Check} → x ≡ y → judgedReply x a (fieldsOf seg) ≡ judgedReply y a (fieldsOf seg)
-    checkedReply e = ap (λ (c : Check). judgedReply c a (fieldsOf seg)) e
+    checkedReply : {x y : Check} → x ≡ y → replyFrom x a (fieldsOf seg) ≡ replyFrom y a (fieldsOf seg)
+    checkedReply e = ap (λ (c : Check). replyFrom c a (fieldsOf seg)) e
 
-    pub answer-stopped : {r : Refusal} → Pair ≡ Refused r → Dropped r ≡ judgedReply Answer a (fieldsOf seg)
+    pub answer-stopped : {r : Refusal} → Pair ≡ Refused r → Dropped r ≡ replyFrom Answer a (fieldsOf seg)
     answer-stopped e = checkedReply (sym (stopped _ _ _ answer-check e))
 
-    pub answer-passed : Pair ≡ Clear → judgedReply Segment a (fieldsOf seg) ≡ judgedReply Answer a (fieldsOf seg)
+    pub answer-passed : Pair ≡ Clear → replyFrom Segment a (fieldsOf seg) ≡ replyFrom Answer a (fieldsOf seg)
     answer-passed e = checkedReply (sym (passed _ _ _ answer-check e))
 
 -- Own MSS
@@ -140,7 +140,7 @@ module _ (a : Attempt) (h : Header) where
 
 module _ (a : Attempt) (h : Header) where
   abbrev Heard : Reply
-  Heard = judgedReply (refusal (replyChecks a h)) a h
+  Heard = replyFrom (refusal (replyChecks a h)) a h
 
   module _ {kind : Bool} (flags : kind ≡ isSynAck (h .flags)) where
     pub dropped-flags : kind ≡ false → Dropped Flags ≡ Heard
@@ -161,7 +161,7 @@ module _ (a : Attempt) (h : Header) where
 
 module _ (own server : List ℕ) (a : Attempt) (seg : List ℕ) where
   abbrev All : Reply
-  All = judgedReply (refusal (wireChecks own server a seg ++ replyChecks a (fieldsOf seg))) a (fieldsOf seg)
+  All = replyFrom (refusal (wireChecks own server a seg ++ replyChecks a (fieldsOf seg))) a (fieldsOf seg)
 
   pub dropped-shape : shapeOf seg ≡ Malformed → Dropped Format ≡ All
   dropped-shape e = rw (ill-shaped seg e)
@@ -177,8 +177,8 @@ module _ (own server : List ℕ) (a : Attempt) (seg : List ℕ) where
       pub dropped-port : between ≡ false → Dropped Port ≡ All
       dropped-port e = rw (well-shaped seg x shape .0, sym sum ∙ k, ported ∙ e)
 
-      pub replied : between ≡ true → {r : Reply} → r ≡ judgedReply (refusal (replyChecks a x)) a x → r ≡ All
+      pub replied : between ≡ true → {r : Reply} → r ≡ replyFrom (refusal (replyChecks a x)) a x → r ≡ All
       replied e {r} q =
-          let same : judgedReply (refusal (replyChecks a x)) a x ≡ judgedReply (refusal (replyChecks a (fieldsOf seg))) a (fieldsOf seg) =
-          ap (λ (h : Header). judgedReply (refusal (replyChecks a h)) a h) (well-shaped seg x shape .1) in
+          let same : replyFrom (refusal (replyChecks a x)) a x ≡ replyFrom (refusal (replyChecks a (fieldsOf seg))) a (fieldsOf seg) =
+          ap (λ (h : Header). replyFrom (refusal (replyChecks a h)) a h) (well-shaped seg x shape .1) in
           q ∙ same ∙ rw (well-shaped seg x shape .0, sym sum ∙ k, ported ∙ e) refl

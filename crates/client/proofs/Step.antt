@@ -24,7 +24,7 @@ use Rattle.endpoint.proofs.Clear.{every-check}
 use Rattle.client.specs.Cache.{cookieLength, entryFor, withCache}
 use Rattle.client.specs.Bans.{isBanned, addBan, withBans}
 use Rattle.client.specs.Call.{Call, connect, answer, failed}
-use Rattle.client.specs.Refusals.{countIn, openChecks, answerChecks, callCheck, judgedReply}
+use Rattle.client.specs.Refusals.{countIn, openChecks, answerChecks, callCheck, replyFrom}
 use Rattle.client.specs.Step.{blank, neverStarted, startOf, openingFor, sentWith, cookieIn, mssIn, cacheAfter, isUnacknowledged, bansAfter, moved, after, doneEvent, doneOutput, outcomeOf, step, outputIf, outputOf}
 use Rattle.client.specs.declared.outcome.ActiveOpen.{ActiveOpen}
 use Rattle.client.specs.declared.outcome.Attempt.{Attempt}
@@ -113,7 +113,7 @@ module _ (m : Memory) (t : ℕ) (own server : List ℕ) (o : ActiveOpen) (offere
 -- Answer
 
 abbrev counted : Check → Attempt → List ℕ → Reply
-counted c a seg = judgedReply c a (fieldsOf seg)
+counted c a seg = replyFrom c a (fieldsOf seg)
 
 was-dropped : (c : Check) (a : Attempt) (seg : List ℕ) {r : Refusal} → counted c a seg ≡ Dropped r → c ≡ Refused r
 was-dropped Clear a seg e = absurd (let z : _≡_ {A = ℕ} 0 1 = cc in omega arith)

@@ -7,8 +7,13 @@ use lib.Dec.{ltb, leb}
 use lib.ListN.{replicate, set}
 use Rattle.lists.specs.Lists.{firstIndex, every}
 use Rattle.endpoint.specs.Address.{sameName}
+use Rattle.client.specs.Cache.{placeCount}
 use Rattle.client.specs.declared.bans.Ban.{Ban}
 use Rattle.client.specs.declared.state.Memory.{Memory}
+
+-- how long a ban lasts, in ms
+abbrev pub banTime : ℕ
+banTime = 600000
 
 -- a place with no ban: an end at 0 is never after a time
 abbrev pub noBan : Ban
@@ -26,7 +31,7 @@ abbrev pub banPlace : ℕ → List ℕ → ℕ → List Ban → ℕ
 banPlace t b port bans = firstIndex (isBan t b port) bans
 
 abbrev pub isBanned : ℕ → List ℕ → ℕ → List Ban → Bool
-isBanned t b port bans = ltb (banPlace t b port bans) 32
+isBanned t b port bans = ltb (banPlace t b port bans) placeCount
 
 -- the lowest place that is not live; 32 where all are
 abbrev pub freePlace : ℕ → List Ban → ℕ
@@ -40,11 +45,11 @@ endsFirst bans = firstIndex (λ x. every (λ y. leb (x .end) (y .end)) bans) ban
 abbrev pub placeFor : ℕ → List ℕ → ℕ → List Ban → ℕ
 placeFor t b port bans =
     cond (isBanned t b port bans) (banPlace t b port bans)
-    (cond (ltb (freePlace t bans) 32) (freePlace t bans) (endsFirst bans))
+    (cond (ltb (freePlace t bans) placeCount) (freePlace t bans) (endsFirst bans))
 
 -- it ends 600,000 ms after it was set
 abbrev pub newBan : ℕ → List ℕ → ℕ → Ban
-newBan t b port = record { addr = b; port = port; end = t + 600000 }
+newBan t b port = record { addr = b; port = port; end = t + banTime }
 
 unfoldable pub addBan : ℕ → List ℕ → ℕ → List Ban → List Ban
 addBan t b port bans = set bans (placeFor t b port bans) (newBan t b port)

@@ -16,6 +16,10 @@ use Rattle.endpoint.specs.declared.address.Family.the-variants.{V4, V6}
 use Rattle.client.specs.declared.cache.Entry.{Entry}
 use Rattle.client.specs.declared.state.Memory.{Memory}
 
+-- how many server addresses are stored, and how many bans there may be
+abbrev pub placeCount : ℕ
+placeCount = 32
+
 -- a place where nothing is stored
 abbrev pub unusedEntry : Entry
 unusedEntry = record { used = false; addr = replicate 16 0; cookie = replicate 16 0; len = 0; mss = NotGiven }
@@ -72,7 +76,7 @@ learnedFrom old b cookie mss =
 
 -- The most recent is first. An entry that is stored leaves its address's old place and becomes the most recent; of 33 the least recent is dropped.
 abbrev pub remembered : Entry → List Entry → List Entry
-remembered e es = take 32 (e ∷ dropFirst (isFor (e .addr)) es)
+remembered e es = take placeCount (e ∷ dropFirst (isFor (e .addr)) es)
 
 abbrev pub withCache : Memory → List Entry → Memory
 withCache m es = record { cache = es; bans = m .bans; started = m .started; family = m .family; clock = m .clock }

@@ -12,7 +12,7 @@ use Rattle.lists.specs.Bytes.{sameBytes}
 use Rattle.lists.specs.Lists.{tally}
 use Rattle.endpoint.specs.Address.{size, isAddress}
 use Rattle.endpoint.specs.declared.address.Family.{Family}
-use Rattle.client.specs.Cache.{cookieOf}
+use Rattle.client.specs.Cache.{placeCount, cookieOf}
 use Rattle.client.specs.Bans.{isBan}
 use Rattle.client.specs.Call.{Call, connect, answer, failed, numberOfEvent}
 use Rattle.client.specs.Step.{startOf, cookieIn, mssIn, isGiven, storedFor, step}
@@ -59,7 +59,7 @@ distinct (a ∷ more) = a ∷ without a (distinct more)
 
 -- the 32 addresses whose last store is most recent, in that order
 abbrev pub recent : List Store → List (List ℕ)
-recent s = take 32 (distinct (map (λ x. x .address) s))
+recent s = take placeCount (distinct (map (λ x. x .address) s))
 
 -- The last cookie, not empty, that was stored for an address since it was last absent, and the last MSS: going back through the stores, for as long as the address is
 -- among the recent ones.

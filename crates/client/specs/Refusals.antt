@@ -6,6 +6,8 @@ use mathlib.Core.Bool.{Bool, not, _&&_}
 use lib.Dec.{ltb, leb, eqb}
 use Rattle.segment.specs.Refusal.{Checks, refusal}
 use Rattle.segment.specs.Header.{malformed, fieldsOf, isSynAck}
+use Rattle.segment.specs.Options.{leastMss, mostMss}
+use Rattle.segment.specs.Write.{longestOpening}
 use Rattle.segment.specs.Checksum.{checksumRight}
 use Rattle.segment.specs.Sequence.{acknowledged}
 use Rattle.segment.specs.declared.refusal.Refusal.the-variants.{Format, Checksum, Port, Flags, Sequence, Output, Range}
@@ -20,9 +22,13 @@ use Rattle.client.specs.declared.checks.Reply.{Reply}
 use Rattle.client.specs.declared.checks.Reply.the-variants.{Dropped, Acknowledged}
 use Rattle.client.specs.declared.state.Memory.{Memory}
 
+-- the most bytes of data that an attempt may have sent
+abbrev pub mostSent : ℕ
+mostSent = 1460
+
 -- not 12: own MSS is 536 to 1,460
 unfoldable pub isMss : ℕ → Bool
-isMss mss = leb 536 mss && leb mss 1460
+isMss mss = leb leastMss mss && leb mss mostMss
 
 -- not 4: both ports are the attempt's
 unfoldable pub isBetween : Attempt → Header → Bool
@@ -39,7 +45,7 @@ pairChecks started f untimely own server = timely started untimely ++ addressed 
 -- 11: an output of under 1,504 bytes
 abbrev pub openChecks : Bool → Family → Bool → List ℕ → List ℕ → ℕ → ℕ → Checks
 openChecks started f untimely own server mss out-len =
-    pairChecks started f untimely own server ++ ((Output, ltb out-len 1504) ∷ (Range, not (isMss mss)) ∷ [])
+    pairChecks started f untimely own server ++ ((Output, ltb out-len longestOpening) ∷ (Range, not (isMss mss)) ∷ [])
 
 -- of the segment, which goes from the server to us
 abbrev pub wireChecks : List ℕ → List ℕ → Attempt → List ℕ → Checks
@@ -48,7 +54,7 @@ wireChecks own server a seg =
 
 -- as an answer to the attempt: bytes sent above 1,460 are 12, a count above the bytes sent is 10
 abbrev pub replyChecks : Attempt → Header → Checks
-replyChecks a h = (Flags, not (isSynAck (h .flags))) ∷ (Range, ltb 1460 (a .sent)) ∷ (Sequence, ltb (a .sent) (countIn a h)) ∷ []
+replyChecks a h = (Flags, not (isSynAck (h .flags))) ∷ (Range, ltb mostSent (a .sent)) ∷ (Sequence, ltb (a .sent) (countIn a h)) ∷ []
 
 abbrev pub answerChecks : Bool → Family → Bool → List ℕ → List ℕ → Attempt → List ℕ → Checks
 answerChecks started f untimely own server a seg =
@@ -65,6 +71,6 @@ unfoldable pub callCheck : Memory → Call → Check
 callCheck m c = refusal (checks m c)
 
 -- an answer that is not refused has its acknowledged count
-abbrev pub judgedReply : Check → Attempt → Header → Reply
-judgedReply Clear a h = Acknowledged (countIn a h)
-judgedReply (Refused r) a h = Dropped r
+abbrev pub replyFrom : Check → Attempt → Header → Reply
+replyFrom Clear a h = Acknowledged (countIn a h)
+replyFrom (Refused r) a h = Dropped r

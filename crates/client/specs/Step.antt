@@ -19,7 +19,7 @@ use Rattle.segment.specs.declared.write.Opening.{Opening}
 use Rattle.endpoint.specs.Address.{isSize, familyOf, block}
 use Rattle.endpoint.specs.declared.address.Family.{Family}
 use Rattle.endpoint.specs.declared.address.Family.the-variants.{V4}
-use Rattle.client.specs.Cache.{unusedEntry, entryFor, cookieLength, cookieOf, dataRoom, learnedFrom, remembered}
+use Rattle.client.specs.Cache.{placeCount, unusedEntry, entryFor, cookieLength, cookieOf, dataRoom, learnedFrom, remembered}
 use Rattle.client.specs.Bans.{noBan, isBanned, addBan}
 use Rattle.client.specs.Call.{Call, connect, answer, failed}
 use Rattle.client.specs.Refusals.{countIn, callCheck}
@@ -37,7 +37,7 @@ use Rattle.client.specs.declared.state.Memory.{Memory}
 
 -- nothing stored, no ban, time 0
 abbrev pub blank : Bool → Family → Memory
-blank started f = record { cache = replicate 32 unusedEntry; bans = replicate 32 noBan; started = started; family = f; clock = 0 }
+blank started f = record { cache = replicate placeCount unusedEntry; bans = replicate placeCount noBan; started = started; family = f; clock = 0 }
 
 -- a memory that was never started: every call on it returns 13
 abbrev pub neverStarted : Memory

@@ -1,9 +1,14 @@
 // The bans: servers, by address and port, that no Fast Open option is sent to for a while.
 use crate::state::Memory;
+use crate::state::PLACES;
 use endpoint::address::same_name;
 ghost use mathlib.Core.Path.{_≡_};
-ghost use Prim.Native.Nat.{_≤_, _^_};
+ghost use Prim.Native.Nat.{_≤_};
+ghost use Rattle.endpoint.specs.Checks.{lastTime};
 ghost use Rattle.client.specs.Bans.{noBan, isBan, banPlace, isBanned, freePlace, endsFirst, placeFor, addBan, withBans};
+
+// How long a ban lasts, in ms.
+pub const BAN_TIME: u64 = 600000;
 
 // A server's name, the address by its block, and the time at which the ban ends.
 pub struct Ban {
@@ -37,32 +42,32 @@ fn is_ban(time: u64, b: [u8; 16], port: u16, x: Ban) -> bool
 fn ban_place(m: Memory, time: u64, b: [u8; 16], port: u16) -> usize
     ensures { λ r. ⌜ r ≡ banPlace time b port (m .bans) ⌝ }
 {
-    for i in 0..32 {
+    for i in 0..PLACES {
         let x = m.bans[i];
         if is_ban(time, b, port, x) {
             return i;
         }
     }
-    32
+    PLACES
 }
 
 pub(crate) fn is_banned(m: Memory, time: u64, b: [u8; 16], port: u16) -> bool
     ensures { λ r. ⌜ r ≡ isBanned time b port (m .bans) ⌝ }
 {
-    ban_place(m, time, b, port) < 32
+    ban_place(m, time, b, port) < PLACES
 }
 
 // The lowest place that is not live; 32 where there is none.
 fn free_place(m: Memory, time: u64) -> usize
     ensures { λ r. ⌜ r ≡ freePlace time (m .bans) ⌝ }
 {
-    for i in 0..32 {
+    for i in 0..PLACES {
         let x = m.bans[i];
         if x.end <= time {
             return i;
         }
     }
-    32
+    PLACES
 }
 
 // The place of the ban that ends first, the lowest on a tie.
@@ -72,7 +77,7 @@ fn first_to_end(m: Memory) -> usize
     let first = m.bans[0];
     let mut at = 0;
     let mut end = first.end;
-    for i in 1..32 {
+    for i in 1..PLACES {
         let x = m.bans[i];
         if x.end < end {
             at = i;
@@ -87,11 +92,11 @@ fn place_for(m: Memory, time: u64, b: [u8; 16], port: u16) -> usize
     ensures { λ r. ⌜ r ≡ placeFor time b port (m .bans) ⌝ }
 {
     let own = ban_place(m, time, b, port);
-    if own < 32 {
+    if own < PLACES {
         return own;
     }
     let free = free_place(m, time);
-    if free < 32 {
+    if free < PLACES {
         return free;
     }
     first_to_end(m)
@@ -99,15 +104,15 @@ fn place_for(m: Memory, time: u64, b: [u8; 16], port: u16) -> usize
 
 // Bans a server from a time on.
 pub(crate) fn set_ban(mut m: Memory, time: u64, b: [u8; 16], port: u16) -> Memory
-    requires { ⌜ time ≤ 2 ^ 48 ⌝ }
+    requires { ⌜ time ≤ lastTime ⌝ }
     ensures { λ r. ⌜ r ≡ withBans m (addBan time b port (m .bans)) ⌝ }
 {
     let i = place_for(m, time, b, port);
-    if i < 32 {
+    if i < PLACES {
         let x = Ban {
             addr: b,
             port,
-            end: time + 600000,
+            end: time + BAN_TIME,
         };
         m.bans[i] = x;
     }

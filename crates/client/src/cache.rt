@@ -1,5 +1,6 @@
 // The cookie cache: what is stored for the server addresses stored most recently.
 use crate::state::Memory;
+use crate::state::PLACES;
 use endpoint::address::Family;
 use endpoint::address::block_of;
 use endpoint::address::same_block;
@@ -46,13 +47,13 @@ fn is_for(b: [u8; 16], e: Entry) -> bool
 fn place_of(m: Memory, b: [u8; 16]) -> usize
     ensures { λ r. ⌜ r ≡ placeOf b (m .cache) ⌝ }
 {
-    for i in 0..32 {
+    for i in 0..PLACES {
         let e = m.cache[i];
         if is_for(b, e) {
             return i;
         }
     }
-    32
+    PLACES
 }
 
 // What is stored for the server address with this block.
@@ -60,7 +61,7 @@ pub(crate) fn entry_for(m: Memory, b: [u8; 16]) -> Entry
     ensures { λ r. ⌜ r ≡ entryFor b (m .cache) ⌝ }
 {
     let i = place_of(m, b);
-    if i < 32 {
+    if i < PLACES {
         return m.cache[i];
     }
     unused_entry()
@@ -146,7 +147,7 @@ pub(crate) fn remember(mut m: Memory, e: Entry) -> Memory
 {
     let b = e.addr;
     let place = place_of(m, b);
-    let end = if place < 32 { place + 1 } else { 32 };
+    let end = if place < PLACES { place + 1 } else { PLACES };
     let mut carried = e;
     for i in 0..end {
         let was = m.cache[i];

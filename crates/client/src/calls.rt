@@ -18,6 +18,7 @@ use crate::outcome::Event;
 use crate::outcome::Outcome;
 use crate::outcome::Started;
 use crate::state::Memory;
+use crate::state::PLACES;
 use endpoint::address::Family;
 use endpoint::address::block_of;
 use endpoint::address::family_of;
@@ -32,9 +33,11 @@ use segment::refusal::Refusal;
 use segment::write::Opening;
 use segment::write::write_opening;
 ghost use mathlib.Core.Path.{_≡_};
-ghost use Prim.Native.Nat.{_≤_, _^_};
+ghost use Prim.Native.Nat.{_≤_};
 ghost use lib.ListN.{length};
 ghost use Rattle.lists.specs.Bytes.{overwrite};
+ghost use Rattle.endpoint.specs.Checks.{lastTime};
+ghost use Rattle.client.specs.Refusals.{mostSent};
 ghost use Rattle.client.specs.Cache.{withCache};
 ghost use Rattle.client.specs.Bans.{withBans};
 ghost use Rattle.client.specs.Call.{Call};
@@ -58,8 +61,8 @@ fn blank_memory(started: bool, family: Family) -> Memory
     let entry = unused_entry();
     let free = no_ban();
     Memory {
-        cache: [entry; 32],
-        bans: [free; 32],
+        cache: [entry; PLACES],
+        bans: [free; PLACES],
         started,
         family,
         clock: 0,
@@ -100,7 +103,7 @@ fn at_time(mut m: Memory, time: u64) -> Memory
 // How many bytes of the data offered are sent.
 fn sent_with(family: Family, banned: bool, e: Entry, offered: usize) -> usize
     ensures { λ r. ⌜ r ≡ sentWith family banned e offered ⌝ }
-    ensures { λ r. ⌜ (r ≤ offered) × (r ≤ 1460) ⌝ }
+    ensures { λ r. ⌜ (r ≤ offered) × (r ≤ mostSent) ⌝ }
 {
     if banned {
         return 0;
@@ -186,7 +189,7 @@ fn learn(m: Memory, b: [u8; 16], cookie: &[u8], mss: Mss) -> Memory
 
 // Bans the server if data was sent and none acknowledged.
 fn ban_if_negative(m: Memory, time: u64, b: [u8; 16], a: Attempt, acknowledged: u32) -> Memory
-    requires { ⌜ time ≤ 2 ^ 48 ⌝ }
+    requires { ⌜ time ≤ lastTime ⌝ }
     ensures { λ r. ⌜ r ≡ withBans m (bansAfter time b (a .dest) (isUnacknowledged (a .sent) acknowledged) (m .bans)) ⌝ }
 {
     if a.sent == 0 {

@@ -8,15 +8,21 @@ use segment::header::Header;
 use segment::header::Shape;
 use segment::header::is_syn_ack;
 use segment::header::read_header;
+use segment::options::LEAST_MSS;
+use segment::options::MOST_MSS;
 use segment::refusal::Check;
 use segment::refusal::Refusal;
 use segment::sequence::acknowledged_bytes;
+use segment::write::LONGEST_OPENING;
 ghost use mathlib.Core.Path.{_≡_};
 ghost use mathlib.Core.List.{_++_};
 ghost use Rattle.segment.specs.Refusal.{refusal};
 ghost use Rattle.segment.specs.Header.{fieldsOf};
 ghost use Rattle.endpoint.specs.Checks.{isUntimely};
-ghost use Rattle.client.specs.Refusals.{isMss, isBetween, pairChecks, openChecks, wireChecks, replyChecks, answerChecks, judgedReply};
+ghost use Rattle.client.specs.Refusals.{isMss, isBetween, pairChecks, openChecks, wireChecks, replyChecks, answerChecks, replyFrom};
+
+// The most bytes of data that an attempt may have sent.
+pub const MOST_SENT: u32 = 1460;
 
 // 13, 5 and 2, the last for both addresses.
 fn check_pair(
@@ -44,10 +50,10 @@ fn check_pair(
 fn is_mss(mss: u32) -> bool
     ensures { λ r. ⌜ r ≡ isMss mss ⌝ }
 {
-    if mss < 536 {
+    if mss < LEAST_MSS {
         return false;
     }
-    mss <= 1460
+    mss <= MOST_MSS
 }
 
 // Of an opening: 13, 5, 2, 11 and 12.
@@ -66,7 +72,7 @@ pub(crate) fn check_open(
     match check_pair(started, family, clock, time, own, server) {
         Check::Refused(why) => Check::Refused(why),
         Check::Clear => {
-            if out_len < 1504 {
+            if out_len < LONGEST_OPENING {
                 return Check::Refused(Refusal::Output);
             }
             if !is_mss(mss) {
@@ -95,7 +101,7 @@ fn is_between(a: Attempt, h: Header) -> bool
 
 // 6, 12 and 10.
 fn check_reply(a: Attempt, h: Header) -> Reply
-    ensures { λ r. ⌜ r ≡ judgedReply (refusal (replyChecks a h)) a h ⌝ }
+    ensures { λ r. ⌜ r ≡ replyFrom (refusal (replyChecks a h)) a h ⌝ }
 {
     if !is_syn_ack(h.flags) {
         return Reply::Dropped(Refusal::Flags);
@@ -103,7 +109,7 @@ fn check_reply(a: Attempt, h: Header) -> Reply
     let sent = a.sent;
     let iss = a.iss;
     let ack = h.ack;
-    if 1460 < sent {
+    if MOST_SENT < sent {
         return Reply::Dropped(Refusal::Range);
     }
     let n = acknowledged_bytes(iss, ack);
@@ -115,7 +121,7 @@ fn check_reply(a: Attempt, h: Header) -> Reply
 
 // 1, 3, 4, 6, 12 and 10.
 fn check_segment(own: &[u8], server: &[u8], a: Attempt, seg: &[u8]) -> Reply
-    ensures { λ r. ⌜ r ≡ judgedReply (refusal (wireChecks (now (own .entry)) (now (server .entry)) a (now (seg .entry)) ++ replyChecks a (fieldsOf (now (seg .entry))))) a (fieldsOf (now (seg .entry))) ⌝ }
+    ensures { λ r. ⌜ r ≡ replyFrom (refusal (wireChecks (now (own .entry)) (now (server .entry)) a (now (seg .entry)) ++ replyChecks a (fieldsOf (now (seg .entry))))) a (fieldsOf (now (seg .entry))) ⌝ }
 {
     match read_header(seg) {
         Shape::Malformed => Reply::Dropped(Refusal::Format),
@@ -142,7 +148,7 @@ pub(crate) fn check_answer(
     a: Attempt,
     seg: &[u8],
 ) -> Reply
-    ensures { λ r. ⌜ r ≡ judgedReply (refusal (answerChecks started family (isUntimely clock time) (now (own .entry)) (now (server .entry)) a (now (seg .entry)))) a (fieldsOf (now (seg .entry))) ⌝ }
+    ensures { λ r. ⌜ r ≡ replyFrom (refusal (answerChecks started family (isUntimely clock time) (now (own .entry)) (now (server .entry)) a (now (seg .entry)))) a (fieldsOf (now (seg .entry))) ⌝ }
 {
     match check_pair(started, family, clock, time, own, server) {
         Check::Refused(why) => Reply::Dropped(why),

@@ -3,6 +3,9 @@ use endpoint::address::size_of;
 use endpoint::checks::check_name;
 use protocol::slots::Slot;
 use protocol::state::LocalEndpoint;
+use protocol::state::MOST_EARLY_ROOM;
+use protocol::state::MOST_HOLD;
+use protocol::state::MOST_LIMIT;
 use protocol::state::Settings;
 use protocol::state::View;
 use segment::checksum::is_checksum_right;
@@ -10,10 +13,13 @@ use segment::header::Header;
 use segment::header::Kind;
 use segment::header::Shape;
 use segment::header::read_header;
+use segment::options::LEAST_MSS;
+use segment::options::MOST_MSS;
 use segment::refusal::Check;
 use segment::refusal::Refusal;
 use segment::sequence::in_window;
 use segment::sequence::next_after;
+use segment::write::LONGEST_SYN_ACK;
 use table::slot::accepted_with;
 use table::slot::is_free;
 use table::slot::is_waiting;
@@ -39,7 +45,7 @@ pub fn check_output(
     match check_name(local.started, family, clock, time, addr) {
         Check::Refused(why) => Check::Refused(why),
         Check::Clear => {
-            if out_len < 36 {
+            if out_len < LONGEST_SYN_ACK {
                 Check::Refused(Refusal::Output)
             } else {
                 Check::Clear
@@ -169,17 +175,17 @@ pub fn check_kind(v: View, h: Header, kind: Kind) -> Check
 pub fn is_in_range(g: Settings) -> bool
     ensures { λ r. ⌜ r ≡ inRange g ⌝ }
 {
-    if 64 < g.limit {
+    if MOST_LIMIT < g.limit {
         return false;
     }
-    if 1460 < g.early_room {
+    if MOST_EARLY_ROOM < g.early_room {
         return false;
     }
-    if 65535 < g.hold {
+    if MOST_HOLD < g.hold {
         return false;
     }
-    if g.mss < 536 {
+    if g.mss < LEAST_MSS {
         return false;
     }
-    g.mss <= 1460
+    g.mss <= MOST_MSS
 }

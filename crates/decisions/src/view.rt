@@ -1,5 +1,6 @@
 // What a call's outcome depends on.
 use endpoint::checks::is_untimely;
+use protocol::slots::SLOTS;
 use protocol::slots::Scan;
 use protocol::slots::Slot;
 use protocol::state::InForce;
@@ -9,6 +10,7 @@ use protocol::state::View;
 ghost use mathlib.Core.Path.{_≡_};
 ghost use lib.Dec.{ltb};
 ghost use Rattle.endpoint.specs.Checks.{isUntimely};
+ghost use Rattle.protocol.specs.Table.{slotCount};
 
 // The view of a call, from what its scan found and its peer's slot.
 pub fn view_of(
@@ -20,7 +22,7 @@ pub fn view_of(
     scan: Scan,
     slot: Slot,
 ) -> View
-    ensures { λ r. ⌜ r ≡ record { local = local; untimely = isUntimely clock time; settings = settings; keys = keys; slot = slot; vacant = ltb (scan .free) 64; below = ltb (scan .pending) (settings .limit) } ⌝ }
+    ensures { λ r. ⌜ r ≡ record { local = local; untimely = isUntimely clock time; settings = settings; keys = keys; slot = slot; vacant = ltb (scan .free) slotCount; below = ltb (scan .pending) (settings .limit) } ⌝ }
 {
     View {
         local,
@@ -28,7 +30,7 @@ pub fn view_of(
         settings,
         keys,
         slot,
-        vacant: scan.free < 64,
+        vacant: scan.free < SLOTS,
         below: scan.pending < settings.limit,
     }
 }

@@ -9,9 +9,13 @@ use Rattle.segment.specs.declared.refusal.Refusal.the-variants.{Address, Time, 
 use Rattle.endpoint.specs.Address.{isAddress}
 use Rattle.endpoint.specs.declared.address.Family.{Family}
 
+-- the last time that a call may carry
+abbrev pub lastTime : ℕ
+lastTime = 2 ^ 48
+
 -- refusal 5: before the last accepted time, or above 2^48
 abbrev pub isUntimely : ℕ → ℕ → Bool
-isUntimely clock t = ltb t clock || ltb (2 ^ 48) t
+isUntimely clock t = ltb t clock || ltb lastTime t
 
 -- 13, then 5
 abbrev pub timely : Bool → Bool → Checks

@@ -8,14 +8,17 @@ ghost use mathlib.Core.List.{_++_};
 ghost use Rattle.segment.specs.Refusal.{refusal};
 ghost use Rattle.endpoint.specs.Checks.{isUntimely, timely, addressed};
 
-// Whether a time is before the clock or above 2^48.
+// The last time that a call may carry, in ms: 2^48.
+pub const LAST_TIME: u64 = 281474976710656;
+
+// Whether a time is before the clock or above the last one.
 pub fn is_untimely(clock: u64, time: u64) -> bool
     ensures { λ r. ⌜ r ≡ isUntimely clock time ⌝ }
 {
     if time < clock {
         return true;
     }
-    281474976710656 < time
+    LAST_TIME < time
 }
 
 // 13 and 5.

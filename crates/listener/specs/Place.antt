@@ -1,6 +1,7 @@
 -- The place of the table that a done segment changes. No document has it: it carries `segmentAfter` to the code.
 -- Assumes nothing.
 use Prim.Native.Nat.{ℕ}
+use Rattle.protocol.specs.Table.{slotCount}
 use Rattle.protocol.specs.declared.slots.Scan.{Scan}
 use Rattle.protocol.specs.declared.outcome.Event.{Event}
 use Rattle.protocol.specs.declared.outcome.Event.the-variants as events
@@ -12,5 +13,5 @@ placeOf events.Regular scan = scan .free
 placeOf events.Retransmission scan = scan .place
 placeOf events.Completed scan = scan .place
 placeOf events.WasReset scan = scan .place
-placeOf events.Done scan = 64
-placeOf (events.Refused r) scan = 64
+placeOf events.Done scan = slotCount
+placeOf (events.Refused r) scan = slotCount

@@ -22,9 +22,11 @@ use endpoint::checks::check_time;
 use protocol::outcome::Event;
 use protocol::outcome::Outcome;
 use protocol::outcome::Started;
+use protocol::slots::SLOTS;
 use protocol::slots::Scan;
 use protocol::slots::Slot;
 use protocol::slots::Status;
+use protocol::state::FRESH_MSS;
 use protocol::state::InForce;
 use protocol::state::Keys;
 use protocol::state::Listener;
@@ -86,7 +88,7 @@ fn blank_listener(local: LocalEndpoint, keys: Keys) -> Listener
 {
     let slot = free_slot();
     Listener {
-        slots: [slot; 64],
+        slots: [slot; SLOTS],
         keys,
         local,
         settings: InForce {
@@ -94,7 +96,7 @@ fn blank_listener(local: LocalEndpoint, keys: Keys) -> Listener
             limit: 0,
             early_room: 0,
             hold: 0,
-            mss: 536,
+            mss: FRESH_MSS,
         },
         clock: 0,
     }
@@ -208,13 +210,13 @@ fn place_of(event: Event, scan: Scan) -> usize
     ensures { λ r. ⌜ r ≡ placeOf event scan ⌝ }
 {
     match event {
-        Event::Refused(_) => 64,
+        Event::Refused(_) => SLOTS,
         Event::FastOpened(_) => scan.free,
         Event::Regular => scan.free,
         Event::Retransmission => scan.place,
         Event::Completed => scan.place,
         Event::WasReset => scan.place,
-        Event::Done => 64,
+        Event::Done => SLOTS,
     }
 }
 
@@ -233,7 +235,7 @@ pub fn segment(l: Listener, time: u64, src: &[u8], seg: &[u8], iss: u32, out: &m
             let mut next = l;
             let b = block_of(src);
             let mut scan = empty_scan();
-            for i in 0..64 {
+            for i in 0..SLOTS {
                 let s = next.slots[i];
                 let more = scan_slot(scan, i, time, b, h.source, s);
                 scan = more;
@@ -349,7 +351,7 @@ fn free_named(l: Listener, time: u64, addr: &[u8], port: u16, established: bool)
             let mut next = l;
             let b = block_of(addr);
             let mut scan = empty_scan();
-            for i in 0..64 {
+            for i in 0..SLOTS {
                 let s = next.slots[i];
                 let more = scan_slot(scan, i, time, b, port, s);
                 scan = more;
@@ -407,7 +409,7 @@ pub fn resend(l: Listener, time: u64, addr: &[u8], port: u16, out: &mut [u8]) ->
             let mut next = l;
             let b = block_of(addr);
             let mut scan = empty_scan();
-            for i in 0..64 {
+            for i in 0..SLOTS {
                 let s = next.slots[i];
                 let more = scan_slot(scan, i, time, b, port, s);
                 scan = more;
@@ -438,7 +440,7 @@ fn count_pending(l: Listener) -> u32
 {
     let clock = l.clock;
     let mut n = 0;
-    for i in 0..64 {
+    for i in 0..SLOTS {
         let s = l.slots[i];
         let status = s.status;
         let more = count_if(n, is_pending(clock, status));

@@ -8,6 +8,7 @@ use lib.Dec.{ltb}
 use lib.ListN.{length, take}
 use Rattle.cipher.specs.KeyExpansion.{keyExpansion}
 use Rattle.segment.specs.Header.{fieldsOf, payloadOf, kindOf}
+use Rattle.segment.specs.Options.{leastMss}
 use Rattle.segment.specs.declared.header.Kind.{Kind}
 use Rattle.segment.specs.declared.header.Kind.the-variants.{Syn, Rst, Ack, Other}
 use Rattle.lists.specs.Lists.{tally, amend}
@@ -42,7 +43,7 @@ abbrev pub freshJournal : List ℕ → ℕ → List ℕ → Journal
 freshJournal own port k =
     record {
       time = 0;
-      settings = record { on = false; limit = 0; «early_room» = 0; hold = 0; mss = 536 };
+      settings = record { on = false; limit = 0; «early_room» = 0; hold = 0; mss = leastMss };
       present = k;
       previous = noKey;
       entries = [];

@@ -7,6 +7,8 @@ use lib.Dec.{ltb, leb, eqb}
 use lib.ListN.{length}
 use Rattle.segment.specs.Refusal.{Checks, refusal}
 use Rattle.segment.specs.Header.{malformed, fieldsOf, kindOf}
+use Rattle.segment.specs.Options.{leastMss, mostMss}
+use Rattle.segment.specs.Write.{longestSynAck}
 use Rattle.segment.specs.Checksum.{checksumRight}
 use Rattle.segment.specs.Sequence.{nextAfter, inWindow}
 use Rattle.segment.specs.declared.refusal.Refusal.the-variants.{Format, Checksum, Port, Flags, NameInUse, TableFull, NoConnection, Sequence, Output, Range}
@@ -15,7 +17,7 @@ use Rattle.segment.specs.declared.header.Header.{Header}
 use Rattle.segment.specs.declared.header.Kind.{Kind}
 use Rattle.segment.specs.declared.header.Kind.the-variants.{Syn, Rst, Ack, Other}
 use Rattle.endpoint.specs.Checks.{timely, addressed}
-use Rattle.protocol.specs.Table.{isWaiting, isEstablished, acceptedWith}
+use Rattle.protocol.specs.Table.{slotCount, isWaiting, isEstablished, acceptedWith}
 use Rattle.protocol.specs.Call.{Call, segment, settings, key, abandon, resend, close}
 use Rattle.protocol.specs.View.{known, ownAddress, viewOf}
 use Rattle.protocol.specs.declared.state.Settings.{Settings}
@@ -27,9 +29,16 @@ use Rattle.protocol.specs.declared.slots.Slot.{Slot}
 
 -- Named checks
 
+-- the most early data of one opening in bytes, and the longest hold in ms
+abbrev pub mostEarlyRoom : ℕ
+mostEarlyRoom = 1460
+
+abbrev pub mostHold : ℕ
+mostHold = 65535
+
 -- not 12: limit 0 to 64, early room 0 to 1,460, hold 0 to 65,535, MSS 536 to 1,460
 unfoldable pub inRange : Settings → Bool
-inRange g = leb (g .limit) 64 && (leb (g .«early_room») 1460 && (leb (g .hold) 65535 && (leb 536 (g .mss) && leb (g .mss) 1460)))
+inRange g = leb (g .limit) slotCount && (leb (g .«early_room») mostEarlyRoom && (leb (g .hold) mostHold && (leb leastMss (g .mss) && leb (g .mss) mostMss)))
 
 -- not 12: a key has 16 bytes
 abbrev pub isKey : List ℕ → Bool
@@ -55,7 +64,7 @@ resets s h = eqb (h .seq) (expected s)
 
 -- 01's answer, the SYN-ACK, has at most 36 bytes
 abbrev pub outputChecks : ℕ → Checks
-outputChecks out-len = (Output, ltb out-len 36) ∷ []
+outputChecks out-len = (Output, ltb out-len longestSynAck) ∷ []
 
 -- a connection that is there and not complete
 abbrev pub waiting : Slot → Checks

@@ -19,7 +19,7 @@ use Rattle.segment.specs.declared.header.Kind.the-variants.{Syn, Ack}
 use Rattle.segment.specs.declared.write.SynAck.{SynAck}
 use Rattle.endpoint.specs.Address.{block}
 use Rattle.protocol.specs.Cookie.{carriedBy, right}
-use Rattle.protocol.specs.Table.{isWaiting, pendingAt}
+use Rattle.protocol.specs.Table.{slotCount, isWaiting, pendingAt}
 use Rattle.protocol.specs.Call.{segment, sender}
 use Rattle.protocol.specs.View.{known, view}
 use Rattle.protocol.specs.Refusals.{expected, kindChecks, callCheck}
@@ -33,7 +33,7 @@ pub record NewOpening (l : Listener) (t : ℕ) (src seg : List ℕ) (iss out-len
   pub clear : callCheck l (segment t src seg iss out-len) ≡ Clear
   pub syn : kindOf (fieldsOf seg .flags) ≡ Syn
   pub new : known (view l t (sender src seg)) ≡ false
-  pub slots : length (l .slots) ≡ 64
+  pub slots : length (l .slots) ≡ slotCount
 
 -- its cookie is right, under whatever keys the listener has
 abbrev pub HasRight : Listener → List ℕ → List ℕ → Type 0

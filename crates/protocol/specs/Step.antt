@@ -7,6 +7,7 @@ use lib.ListN.{length, replicate, set}
 use Rattle.cipher.specs.KeyExpansion.{keyExpansion}
 use Rattle.segment.specs.Refusal.{Checks, refusal}
 use Rattle.segment.specs.Header.{fieldsOf, payloadOf, kindOf}
+use Rattle.segment.specs.Options.{leastMss}
 use Rattle.segment.specs.Write.{synAckBytes}
 use Rattle.segment.specs.declared.refusal.Refusal.the-variants.{Address, Range}
 use Rattle.segment.specs.declared.refusal.Check.{Check}
@@ -18,7 +19,7 @@ use Rattle.segment.specs.declared.write.SynAck.{SynAck}
 use Rattle.endpoint.specs.Address.{Peer, isSize, familyOf, block}
 use Rattle.endpoint.specs.declared.address.Family.the-variants.{V4}
 use Rattle.protocol.specs.Cookie.{carriedBy, counts, cookieUnder, rightUnder, right}
-use Rattle.protocol.specs.Table.{acceptedWith, afterReset, freeSlot, newSlot, withStatus, pendingAt}
+use Rattle.protocol.specs.Table.{slotCount, acceptedWith, afterReset, freeSlot, newSlot, withStatus, pendingAt}
 use Rattle.protocol.specs.Call.{Call, segment, settings, key, abandon, resend, close, sender}
 use Rattle.protocol.specs.View.{known, ownAddress, scanFor, view, viewOf}
 use Rattle.protocol.specs.Refusals.{isKey, callCheck}
@@ -40,11 +41,11 @@ use Rattle.protocol.specs.declared.outcome.Started.{Started}
 
 -- "Fresh state": Fast Open off, limit, early room and hold 0, own MSS 536
 abbrev pub freshSettings : InForce
-freshSettings = record { on = false; limit = 0; «early_room» = 0; hold = 0; mss = 536 }
+freshSettings = record { on = false; limit = 0; «early_room» = 0; hold = 0; mss = leastMss }
 
 -- a listener with no connection, at time 0
 abbrev pub blank : LocalEndpoint → Keys → Listener
-blank h k = record { slots = replicate 64 freeSlot; keys = k; local = h; settings = freshSettings; clock = 0 }
+blank h k = record { slots = replicate slotCount freeSlot; keys = k; local = h; settings = freshSettings; clock = 0 }
 
 -- one that was never started: every call on it returns 13
 abbrev pub neverStarted : Listener

@@ -12,6 +12,10 @@ use Rattle.protocol.specs.declared.slots.Status.the-variants.{Free, SynR
 use Rattle.protocol.specs.declared.slots.Slot.{Slot}
 use Rattle.protocol.specs.declared.slots.Scan.{Scan}
 
+-- how many slots the table has
+abbrev pub slotCount : ℕ
+slotCount = 64
+
 -- The statuses are, in 01's words: free, plain, early, held, open. A slot is live unless it is free or its hold has run out by the time.
 abbrev pub isLive : ℕ → Status → Bool
 isLive t Free = false

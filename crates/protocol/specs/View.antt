@@ -8,7 +8,7 @@ use lib.Dec.{ltb}
 use lib.ListN.{getD, take}
 use Rattle.endpoint.specs.Address.{Peer, size, block}
 use Rattle.endpoint.specs.Checks.{isUntimely}
-use Rattle.protocol.specs.Table.{isFree, freeSlot, scanOf}
+use Rattle.protocol.specs.Table.{slotCount, isFree, freeSlot, scanOf}
 use Rattle.protocol.specs.Call.{Call, timeOf, peerOf}
 use Rattle.protocol.specs.declared.state.LocalEndpoint.{LocalEndpoint}
 use Rattle.protocol.specs.declared.state.InForce.{InForce}
@@ -34,7 +34,7 @@ viewFrom l t s =
       settings = settingsAt l t;
       keys = l .keys;
       slot = slotAt l (s .place);
-      vacant = ltb (s .free) 64;
+      vacant = ltb (s .free) slotCount;
       below = ltb (s .pending) (settingsAt l t .limit);
     }
 

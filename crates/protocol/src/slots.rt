@@ -1,5 +1,8 @@
 // The table's slots, and what one scan of them finds.
 
+// How many slots the table has.
+pub const SLOTS: usize = 64;
+
 // Document 01's free, plain, early with its accepted count, held until a time, and open.
 pub enum Status {
     Free,

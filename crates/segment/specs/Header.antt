@@ -23,9 +23,13 @@ offsetOf s = byteAt s 12 / 16
 abbrev pub headerLength : List ℕ → ℕ
 headerLength s = 4 * offsetOf s
 
+-- the longest segment that is read or written
+abbrev pub longestSegment : ℕ
+longestSegment = 1520
+
 -- refusal 1
 unfoldable pub malformed : List ℕ → Bool
-malformed s = ltb (length s) 20 || (ltb 1520 (length s) || (ltb (offsetOf s) 5 || ltb (length s) (headerLength s)))
+malformed s = ltb (length s) 20 || (ltb longestSegment (length s) || (ltb (offsetOf s) 5 || ltb (length s) (headerLength s)))
 
 -- the fields of a header that are used
 unfoldable pub fieldsOf : List ℕ → Header

@@ -13,6 +13,13 @@ use Rattle.segment.specs.declared.options.FastOpenOption.{FastOpenOption
 use Rattle.segment.specs.declared.options.FastOpenOption.the-variants.{Absent, Request, Cookie}
 use Rattle.segment.specs.declared.options.Options.{Options}
 
+-- the own MSS that an end may be set to lies between these
+abbrev pub leastMss : ℕ
+leastMss = 536
+
+abbrev pub mostMss : ℕ
+mostMss = 1460
+
 -- kind 2 counts with length 4
 unfoldable pub mssOption : List ℕ → ℕ → ℕ → Mss
 mssOption area i len = cond (eqb (byteAt area i) 2 && eqb len 4) (Given (wordAt area (i + 2))) NotGiven

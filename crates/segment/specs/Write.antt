@@ -6,7 +6,7 @@ use mathlib.Core.Bool.{Bool, true, false, cond, not, _&&_, _||_}
 use lib.ListN.{length, replicate}
 use lib.Dec.{leb, eqb}
 use Rattle.segment.specs.Bytes.{be16, be32}
-use Rattle.segment.specs.Header.{SYN, ACK}
+use Rattle.segment.specs.Header.{SYN, ACK, longestSegment}
 use Rattle.segment.specs.Options.{isCookieLength}
 use Rattle.segment.specs.Checksum.{complement, oneFamily, segmentSum}
 use Rattle.segment.specs.Sequence.{nextAfter}
@@ -67,7 +67,7 @@ unfoldable pub canWrite : List ℕ → List ℕ → Outgoing → List ℕ → Li
 canWrite src dst f cookie payload out-len =
     oneFamily src dst
     && (optionAllowed (f .fast) (length cookie)
-    && (leb (lengthFor f cookie payload) 1520 && leb (lengthFor f cookie payload) out-len))
+    && (leb (lengthFor f cookie payload) longestSegment && leb (lengthFor f cookie payload) out-len))
 
 -- the bytes that are written to an output of this length; none where the segment is not written
 unfoldable pub written : List ℕ → List ℕ → Outgoing → List ℕ → List ℕ → ℕ → List ℕ
@@ -90,10 +90,14 @@ synAckFields a =
 unfoldable pub synAckBytes : List ℕ → List ℕ → SynAck → List ℕ → ℕ → List ℕ
 synAckBytes src dst a cookie out-len = written src dst (synAckFields a) cookie [] out-len
 
+-- the longest SYN-ACK: a header of 20 bytes, the MSS option of 4 and a Fast Open option of 12 with its padding
+abbrev pub longestSynAck : ℕ
+longestSynAck = 36
+
 -- how many bytes it has where it is written: 36 with a fresh cookie of 8, 24 without
 abbrev pub synAckLength : Bool → ℕ
 synAckLength false = 24
-synAckLength true = 36
+synAckLength true = longestSynAck
 
 -- "Client": SYN, our initial number, acknowledgement 0, and a Fast Open option if there is to be one
 abbrev pub openingFields : Opening → Outgoing
@@ -110,3 +114,7 @@ openingFields o =
 
 unfoldable pub openingBytes : List ℕ → List ℕ → Opening → List ℕ → List ℕ → ℕ → List ℕ
 openingBytes src dst o cookie payload out-len = written src dst (openingFields o) cookie payload out-len
+
+-- the longest opening: a header of 20 bytes, options of 24 with the longest cookie, and 1,460 bytes of data
+abbrev pub longestOpening : ℕ
+longestOpening = 1504

@@ -7,6 +7,9 @@ ghost use lib.ListN.{length};
 ghost use Rattle.segment.specs.Bytes.{byteAt};
 ghost use Rattle.segment.specs.Header.{headerLength, malformed, fieldsOf, shapeOf, optionArea, payloadOf, SYN, has, kindOf, isSynAck};
 
+// The longest segment that is read or written, in bytes.
+pub const LONGEST_SEGMENT: usize = 1520;
+
 // The fields of a header that are used. The offset is its length in 32-bit words.
 pub struct Header {
     pub source: u16,
@@ -39,7 +42,7 @@ pub fn is_malformed(seg: &[u8]) -> bool
     if n < 20 {
         return true;
     }
-    if 1520 < n {
+    if LONGEST_SEGMENT < n {
         return true;
     }
     let offset = (seg[12] / 16) as usize;

@@ -7,6 +7,11 @@ ghost use Prim.Native.Nat.{_+_, _≤_};
 ghost use lib.ListN.{length, take, drop};
 ghost use Rattle.segment.specs.Options.{mssOption, isCookieLength, fastOpenOption, firstMss, firstFastOpen, withOption, readOptions, optionsOf, cookieBytes};
 
+// The own MSS that an end may be set to lies between these.
+pub const LEAST_MSS: u32 = 536;
+
+pub const MOST_MSS: u32 = 1460;
+
 // The maximum segment size, if an option gave one.
 pub enum Mss {
     NotGiven,

@@ -19,6 +19,11 @@ ghost use Rattle.segment.specs.Checksum.{onesSum, complement, oneFamily,
 ghost use Rattle.segment.specs.Write.{padding, optionBytes, headerBytes, optionsFor, lengthFor, optionAllowed, canWrite, written, synAckBytes, openingBytes};
 ghost use Rattle.lists.specs.Bytes.{overwrite};
 
+// The longest SYN-ACK and the longest opening, in bytes.
+pub const LONGEST_SYN_ACK: usize = 36;
+
+pub const LONGEST_OPENING: usize = 1504;
+
 // The fields of a segment to write, besides its cookie and its data. `fast`: with a Fast Open option.
 pub(crate) struct Outgoing {
     pub source: u16,

@@ -4,13 +4,13 @@ use Prim.Native.Nat.{ℕ, _+_, _%_, _^_}
 use mathlib.Core.List.{List}
 use mathlib.Core.Bool.{Bool, not, cond}
 use lib.Dec.{ltb}
-use Rattle.protocol.specs.Table.{isLive, isPending, freeSlot, holdsPeer}
+use Rattle.protocol.specs.Table.{slotCount, isLive, isPending, freeSlot, holdsPeer}
 use Rattle.protocol.specs.declared.slots.Slot.{Slot}
 use Rattle.protocol.specs.declared.slots.Scan.{Scan}
 
 -- the place found so far (64 for none), or this place, if the test passes here
 abbrev pub firstPlace : ℕ → ℕ → Bool → ℕ
-firstPlace found i here = cond (ltb found 64) found (cond here i found)
+firstPlace found i here = cond (ltb found slotCount) found (cond here i found)
 
 -- one more if the test passes here; of a table of 64 slots the count never wraps
 abbrev pub countIf : ℕ → Bool → ℕ
@@ -25,11 +25,11 @@ scanWith scan i t b port s =
     }
 
 abbrev pub emptyScan : Scan
-emptyScan = record { place = 64; free = 64; pending = 0 }
+emptyScan = record { place = slotCount; free = slotCount; pending = 0 }
 
 -- the peer's slot: read at a place in the table, and the free one where the place is past it
 abbrev pub indexInTable : ℕ → ℕ
-indexInTable i = cond (ltb i 64) i 0
+indexInTable i = cond (ltb i slotCount) i 0
 
 abbrev pub slotFound : ℕ → Slot → Slot
-slotFound i s = cond (ltb i 64) s freeSlot
+slotFound i s = cond (ltb i slotCount) s freeSlot

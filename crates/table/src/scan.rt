@@ -3,12 +3,13 @@ use crate::slot::free_slot;
 use crate::slot::is_live;
 use crate::slot::is_pending;
 use endpoint::address::same_name;
+use protocol::slots::SLOTS;
 use protocol::slots::Scan;
 use protocol::slots::Slot;
 use std::num::wrapping_add_u32;
 ghost use mathlib.Core.Path.{_≡_};
 ghost use Prim.Native.Nat.{_<_};
-ghost use Rattle.protocol.specs.Table.{holdsPeer};
+ghost use Rattle.protocol.specs.Table.{slotCount, holdsPeer};
 ghost use Rattle.table.specs.Scan.{firstPlace, countIf, scanWith, emptyScan, indexInTable, slotFound};
 
 // Whether the slot holds a connection of this name at the time.
@@ -27,7 +28,7 @@ fn is_named(time: u64, b: [u8; 16], port: u16, s: Slot) -> bool
 fn first_place(found: usize, i: usize, here: bool) -> usize
     ensures { λ r. ⌜ r ≡ firstPlace found i here ⌝ }
 {
-    if found < 64 {
+    if found < SLOTS {
         return found;
     }
     if here { i } else { found }
@@ -57,22 +58,22 @@ pub fn empty_scan() -> Scan
     ensures { λ r. ⌜ r ≡ emptyScan ⌝ }
 {
     Scan {
-        place: 64,
-        free: 64,
+        place: SLOTS,
+        free: SLOTS,
         pending: 0,
     }
 }
 
 // A place that can be read: this one, or place 0 where it is past the table.
 pub fn index_in_table(i: usize) -> usize
-    ensures { λ r. ⌜ (r ≡ indexInTable i) × (r < 64) ⌝ }
+    ensures { λ r. ⌜ (r ≡ indexInTable i) × (r < slotCount) ⌝ }
 {
-    if i < 64 { i } else { 0 }
+    if i < SLOTS { i } else { 0 }
 }
 
 // The peer's slot, read at its place; where there is none, the free slot.
 pub fn slot_found(i: usize, s: Slot) -> Slot
     ensures { λ r. ⌜ r ≡ slotFound i s ⌝ }
 {
-    if i < 64 { s } else { free_slot() }
+    if i < SLOTS { s } else { free_slot() }
 }
