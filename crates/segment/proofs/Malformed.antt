@@ -4,8 +4,8 @@ use mathlib.Core.Path.{_≡_, refl, ap, sym, _∙_}
 use mathlib.Core.Bool.{Bool, true, false, cond}
 use mathlib.Core.List.{List, [], _++_}
 use native.Mathlib.Omega.{arith}
-use lib.ListN.{length, take, drop, length-take, take-append-drop}
-use lib.Seq.{drop-drop}
+use lib.ListN.{length, take, drop, length-take, length-drop, take-append-drop}
+use lib.Seq.{drop-drop, take-all}
 use lib.Dec.{ltb}
 use borrow.Author.Tests.{ltb-false}
 use Rattle.segment.specs.Bytes.{byteAt}
@@ -43,6 +43,26 @@ no-area s e = rw e
 pub no-payload : (s : List ℕ) → malformed s ≡ true → payloadOf s ≡ []
 unfolding payloadOf
 no-payload s e = rw e
+
+-- the parts, by where the header ends and how many bytes follow it
+pub area-by : (s : List ℕ) → take (cond (malformed s) 20 (headerLength s) - 20) (drop 20 s) ≡ optionArea s
+unfolding optionArea
+area-by s = go (malformed s)
+  where
+    go : (b : Bool) → take (cond b 20 (headerLength s) - 20) (drop 20 s) ≡ cond b [] (take (headerLength s - 20) (drop 20 s))
+    go true = refl
+    go false = refl
+
+pub payload-by : (s : List ℕ) → take (cond (malformed s) 0 (length s - headerLength s)) (drop (cond (malformed s) 20 (headerLength s)) s) ≡ payloadOf s
+unfolding payloadOf
+payload-by s = go (malformed s)
+  where
+    h : ℕ
+    h = headerLength s
+
+    go : (b : Bool) → take (cond b 0 (length s - h)) (drop (cond b 20 h) s) ≡ cond b [] (drop h s)
+    go true = refl
+    go false = take-all (length s - h) (drop h s) (omega (arith, length-drop h s))
 
 -- the first 20 bytes, the option area and the payload are the segment
 pub parts : (s : List ℕ) → malformed s ≡ false → take 20 s ++ (optionArea s ++ payloadOf s) ≡ s

@@ -2,8 +2,9 @@
 use crate::number::long_at;
 use crate::number::word_at;
 ghost use mathlib.Core.Path.{_≡_};
-ghost use Prim.Native.Nat.{_≤_};
-ghost use lib.ListN.{length};
+ghost use mathlib.Core.Bool.{cond};
+ghost use Prim.Native.Nat.{_-_, _≤_};
+ghost use lib.ListN.{length, take, drop};
 ghost use Rattle.segment.specs.Bytes.{byteAt};
 ghost use Rattle.segment.specs.Header.{headerLength, malformed, fieldsOf, shapeOf, optionArea, payloadOf, SYN, has, kindOf, isSynAck};
 
@@ -85,26 +86,55 @@ fn header_length(seg: &[u8]) -> usize
     4 * ((seg[12] / 16) as usize)
 }
 
+// Where the header of a segment ends, and how many bytes of payload follow it; 20 and none where the segment is malformed.
+struct Layout {
+    end: usize,
+    rest: usize,
+}
+
+fn layout_of(seg: &[u8]) -> Layout
+    ensures { λ r. ⌜ (r .end ≡ cond (malformed (now (seg .entry))) 20 (headerLength (now (seg .entry)))) × (20 ≤ r .end) ⌝ }
+    ensures { λ r. ⌜ r .rest ≡ cond (malformed (now (seg .entry))) 0 (length (now (seg .entry)) - headerLength (now (seg .entry))) ⌝ }
+{
+    if is_malformed(seg) {
+        return Layout { end: 20, rest: 0 };
+    }
+    let end = header_length(seg);
+    Layout {
+        end,
+        rest: seg.len() - end,
+    }
+}
+
+// At most `len` bytes from `at` on.
+pub(crate) fn part(s: &[u8], at: usize, len: usize) -> &[u8]
+    ensures { λ r. ⌜ now r ≡ take len (drop at (now (s .entry))) ⌝ }
+{
+    let n = s.len();
+    if n < at {
+        return &s[..0];
+    }
+    if n - at < len {
+        return &s[at..];
+    }
+    let end = at + len;
+    &s[at..end]
+}
+
 // The option area, as a part of the segment: from byte 20 to the header's end, at most 40 bytes; empty where the segment is malformed.
 pub fn option_area(seg: &[u8]) -> &[u8]
     ensures { λ r. ⌜ now r ≡ optionArea (now (seg .entry)) ⌝ }
 {
-    if is_malformed(seg) {
-        return &seg[..0];
-    }
-    let end = header_length(seg);
-    &seg[20..end]
+    let l = layout_of(seg);
+    part(seg, 20, l.end - 20)
 }
 
 // The payload, as a part of the segment; empty where the segment is malformed.
 pub fn payload(seg: &[u8]) -> &[u8]
     ensures { λ r. ⌜ now r ≡ payloadOf (now (seg .entry)) ⌝ }
 {
-    if is_malformed(seg) {
-        return &seg[..0];
-    }
-    let end = header_length(seg);
-    &seg[end..]
+    let l = layout_of(seg);
+    part(seg, l.end, l.rest)
 }
 
 // The control bits, by their weight in the flags.

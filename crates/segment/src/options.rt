@@ -1,10 +1,11 @@
 // The option reader (RFC 9293, 3.1; RFC 7413, 4.1.1).
 use crate::header::has_syn;
 use crate::header::option_area;
+use crate::header::part;
 use crate::number::word_at;
 ghost use mathlib.Core.Path.{_≡_};
 ghost use Prim.Native.Nat.{_+_, _≤_};
-ghost use lib.ListN.{length, take, drop};
+ghost use lib.ListN.{length};
 ghost use Rattle.segment.specs.Options.{mssOption, isCookieLength, fastOpenOption, firstMss, firstFastOpen, withOption, readOptions, optionsOf, cookieBytes};
 
 // The own MSS that an end may be set to lies between these.
@@ -165,19 +166,4 @@ pub fn cookie(area: &[u8], fast: FastOpenOption) -> &[u8]
         FastOpenOption::Request => &area[..0],
         FastOpenOption::Absent => &area[..0],
     }
-}
-
-// At most `len` bytes from `at` on.
-fn part(s: &[u8], at: usize, len: usize) -> &[u8]
-    ensures { λ r. ⌜ now r ≡ take len (drop at (now (s .entry))) ⌝ }
-{
-    let n = s.len();
-    if n < at {
-        return &s[..0];
-    }
-    if n - at < len {
-        return &s[at..];
-    }
-    let end = at + len;
-    &s[at..end]
 }

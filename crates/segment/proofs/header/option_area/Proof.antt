@@ -1,48 +1,26 @@
--- `segment::header::option_area` meets its contract.
+-- `segment::header::option_area` meets its contract: by the layout.
 -- Assumes nothing.
-use mathlib.Core.Path.{sym, _∙_}
-use native.Mathlib.Omega.{arith}
-use Rattle.segment.specs.Header.{optionArea}
-use Rattle.segment.proofs.Malformed.{formed}
+use Prim.Native.Nat.{ℕ, _-_}
+use mathlib.Core.Path.{ap, _∙_}
+use lib.ListN.{take, drop}
+use Rattle.segment.proofs.Malformed.{area-by}
 use borrow.Author.Needs.{needs}
 use Rattle.segment.proofs.header.option_area.Statement.{statement}
 use Rattle.segment.proofs.header.option_area.Tie as tie
 
-is-malformed-requires : tie.Need-is-malformed-requires
-is-malformed-requires c κs = search needs
+layout-of-requires : tie.Need-layout-of-requires
+layout-of-requires c κs = search needs
 
-slice-aggregate-result : tie.Need-slice-aggregate-result
-slice-aggregate-result c = search needs
+sub-part : tie.Need-sub-part
+sub-part c = search needs
+
+part-requires : tie.Need-part-requires
+part-requires c κs = search needs
 
 returns : tie.Need-returns
-unfolding optionArea
-returns c = simp (sym (c .before .before .is-malformed .ensures) ∙ c .before .if1 .taken)
-
-header-length-requires : tie.Need-header-length-requires
-header-length-requires c κs = omega (arith, formed _ (sym (c .before .is-malformed .ensures) ∙ c .if1 .left))
-
-sub-result : tie.Need-sub-result
-sub-result c = omega (arith, formed _ (sym (c .before .before .is-malformed .ensures) ∙ c .before .if1 .left))
-
-part-result-start : tie.Need-part-result-start
-part-result-start c = omega (arith, formed _ (sym (c .before .before .is-malformed .ensures) ∙ c .before .if1 .left))
-
-part-result-end : tie.Need-part-result-end
-part-result-end c = omega (arith, formed _ (sym (c .before .before .is-malformed .ensures) ∙ c .before .if1 .left))
-
-returns-2 : tie.Need-returns-2
-unfolding optionArea
-returns-2 c = simp (sym (c .before .before .before .is-malformed .ensures) ∙ c .before .before .if1 .left, c .before .header-length .ensures)
+returns c =
+    let s = c .before .before .before .before .args .seg .now in
+    c .part .ensures ∙ ap (λ (n : ℕ). take (n - 20) (drop 20 s)) (c .before .before .layout-of .ensures .0 .0) ∙ area-by s
 
 pub option-area-spec : {M : Type 1} → statement M
-option-area-spec =
-    tie.close
-    (tie.spec
-    is-malformed-requires
-    slice-aggregate-result
-    returns
-    header-length-requires
-    sub-result
-    part-result-start
-    part-result-end
-    returns-2)
+option-area-spec = tie.close (tie.spec layout-of-requires sub-part part-requires returns)

@@ -1,4 +1,4 @@
--- `segment::options::part` meets its contract.
+-- `segment::header::part` meets its contract.
 -- Assumes nothing.
 use Prim.Native.Nat.{ℕ, _-_, _≤_}
 use mathlib.Core.Path.{sym, ap, _∙_}
@@ -7,8 +7,8 @@ use native.Mathlib.Nat.{add-sub-cancel-left}
 use lib.ListN.{take, drop, length, length-drop, drop-of-length-le}
 use lib.Seq.{take-nil, take-all}
 use borrow.Author.Needs.{needs}
-use Rattle.segment.proofs.options.part.Statement.{statement}
-use Rattle.segment.proofs.options.part.Tie as tie
+use Rattle.segment.proofs.header.part.Statement.{statement}
+use Rattle.segment.proofs.header.part.Tie as tie
 
 slice-aggregate-result : tie.Need-slice-aggregate-result
 slice-aggregate-result c = search needs
