@@ -1,6 +1,6 @@
 // The refusals that listener and client share. The order in which they apply is in specs/Refusal.antt.
 ghost use mathlib.Core.Path.{_≡_};
-ghost use Rattle.segment.specs.Refusal.{numberOf, checkNumber};
+ghost use Rattle.segment.specs.Refusal.{numberOf};
 
 // Why a call is refused. When each is given is document 01's table, "Numbers returned".
 pub enum Refusal {
@@ -43,15 +43,5 @@ pub fn number(why: Refusal) -> u8
         Refusal::Output => 11,
         Refusal::Range => 12,
         Refusal::NotStarted => 13,
-    }
-}
-
-// The number that a call answers: 0 where it is done.
-pub fn answer_number(c: Check) -> u8
-    ensures { λ r. ⌜ r ≡ checkNumber c ⌝ }
-{
-    match c {
-        Check::Clear => 0,
-        Check::Refused(why) => number(why),
     }
 }
