@@ -4,17 +4,16 @@ use protocol::slots::Status;
 ghost use mathlib.Core.Path.{_≡_};
 ghost use Rattle.protocol.specs.Table.{isLive, isPending, isWaiting, isEstablished, isFree, acceptedWith, afterReset, freeSlot, newSlot, withStatus};
 
-// Every status but free is live, a hold until its end.
 pub fn is_live(time: u64, s: Status) -> bool
     ensures { λ r. ⌜ r ≡ isLive time s ⌝ }
 {
-    if is_pending(time, s) {
-        return true;
+    match s {
+        Status::Free => false,
+        Status::SynReceived => true,
+        Status::SynReceivedEarly(_) => true,
+        Status::ResetHeld(until) => time < until,
+        Status::Established => true,
     }
-    if is_waiting(s) {
-        return true;
-    }
-    is_established(s)
 }
 
 pub fn is_pending(time: u64, s: Status) -> bool
