@@ -1,4 +1,4 @@
-// Both ends after an exchange, and the lines that are printed.
+// Both ends after an exchange, and the lines that the program prints.
 use client::state::Memory;
 use libc::STDOUT_FILENO;
 use protocol::state::Listener;
@@ -9,7 +9,7 @@ pub(crate) struct Ends {
     pub(crate) stopped: bool,
 }
 
-// Of a refusal the number is printed, and the program stops. It is 0 where every call was done.
+// The number is 0 where every call was done. Else it is that of a refusal: it is printed, and the program stops.
 pub(crate) fn finish(memory: Memory, listener: Listener, number: u8) -> Ends {
     if number != 0 {
         print_number(b"refused ", number as u64);
@@ -31,12 +31,14 @@ fn print_number(before: &[u8], n: u64) {
     io::print_decimal(STDOUT_FILENO, n);
 }
 
+// A line that ends in text.
 pub(crate) fn print_line(before: &[u8], data: &[u8]) {
     print(before);
     print(data);
     print(b"\n");
 }
 
+// A line with a number of bytes and one more number.
 pub(crate) fn print_counts(who: &[u8], bytes: usize, what: &[u8], n: u32) {
     print_number(who, bytes as u64);
     print(b" bytes, ");

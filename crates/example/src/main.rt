@@ -73,8 +73,8 @@ fn exchange(m: Memory, l: Listener, time: u64, port: u16) -> Ends {
     finish(answered.memory, taken.listener, 0)
 }
 
-// Here the key and the initial numbers of both ends, 1000 and 7000, are fixed; in use they have to be hard to guess. These starts and settings are not
-// refused; after a refused start every call is.
+// Here the key and the initial numbers of both ends, 1000 and 7000, are fixed; in use they have to be hard to guess. Neither start is refused, nor are the
+// settings; had one start been, every call on that end would be.
 fn main() {
     let client = client::calls::start(4);
     let server = listener::calls::start(&SERVER, 443, &[7; 16]);
