@@ -1,4 +1,4 @@
--- Document 01, "Client": the start, and one call on a memory with its outcome (the memory next and what happened) and what is written.
+-- Document 01, "Client": the start, and one call on a memory with its outcome: the memory next, what happened and what is written.
 -- Assumes nothing.
 use Prim.Native.Nat.{ℕ, min}
 use mathlib.Core.List.{List, [], _∷_}

@@ -22,7 +22,7 @@ pub struct Attempt {
     pub sent: u32,
 }
 
-// What a call came to: an opening was written with so many bytes of data; an answer acknowledges so many of them; a failure was reported.
+// What happened: an opening was written with so many bytes of data; an answer acknowledges so many of them; a failure was reported.
 pub enum Event {
     Refused(Refusal),
     Opened(u32),

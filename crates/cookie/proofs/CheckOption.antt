@@ -26,25 +26,25 @@ module _ (k : Keys) (b given : List ℕ) {f : List ℕ} (e : f ≡ cookieUnder (
       → _≡_ {A = OptionCheck} (record { right = same; fresh = true; cookie = f }) (cookieCheck k b given)
   cookie-previous s r p m = rw (e, right-else k b (cookie given) (compared s) r, compared s, cookie-compared (k .previous) b given, m, p)
 
--- what an option's check is to be, where cookies run or not
+-- what an option's check is to be, where cookies are enabled or not
 abbrev pub Considered : Bool → Keys → List ℕ → Carried → OptionCheck → Type 0
-Considered run k b o r =
-    (r .right ≡ run && right k b o)
-    × ((r .fresh ≡ run && (counts o && not (rightUnder (k .present) b o)))
+Considered enabled k b o r =
+    (r .right ≡ enabled && right k b o)
+    × ((r .fresh ≡ enabled && (counts o && not (rightUnder (k .present) b o)))
     × (r .fresh ≡ true → r .cookie ≡ cookieUnder (k .present) b))
 
-module _ (run : Bool) (k : Keys) (b : List ℕ) (r : OptionCheck) where
+module _ (enabled : Bool) (k : Keys) (b : List ℕ) (r : OptionCheck) where
   none-fresh : r .fresh ≡ false → r .fresh ≡ true → r .cookie ≡ cookieUnder (k .present) b
   none-fresh f t = absurd (false≢true (sym f ∙ t))
 
-  pub considered-off : (o : Carried) → run ≡ false → r .right ≡ false → r .fresh ≡ false → Considered run k b o r
+  pub considered-off : (o : Carried) → enabled ≡ false → r .right ≡ false → r .fresh ≡ false → Considered enabled k b o r
   considered-off o n x f = (rw (n, x), (rw (n, f), none-fresh f))
 
-  pub considered-nothing : r .right ≡ false → r .fresh ≡ false → Considered run k b nothing r
-  considered-nothing x f = (rw (never-right k b nothing (λ w. no-cookie w b .0)) (x ∙ sym (and-false run)), (f ∙ sym (and-false run), none-fresh f))
+  pub considered-nothing : r .right ≡ false → r .fresh ≡ false → Considered enabled k b nothing r
+  considered-nothing x f = (rw (never-right k b nothing (λ w. no-cookie w b .0)) (x ∙ sym (and-false enabled)), (f ∙ sym (and-false enabled), none-fresh f))
 
-  pub considered-request : run ≡ true → r .right ≡ false → r .fresh ≡ true → r .cookie ≡ cookieUnder (k .present) b → Considered run k b request r
-  considered-request n x f c = (rw (never-right k b request (λ w. no-cookie w b .1)) (x ∙ sym (and-false run)), (rw (n, f, no-cookie (k .present) b .1), λ _. c))
+  pub considered-request : enabled ≡ true → r .right ≡ false → r .fresh ≡ true → r .cookie ≡ cookieUnder (k .present) b → Considered enabled k b request r
+  considered-request n x f c = (rw (never-right k b request (λ w. no-cookie w b .1)) (x ∙ sym (and-false enabled)), (rw (n, f, no-cookie (k .present) b .1), λ _. c))
 
-  pub considered-cookie : (given : List ℕ) → run ≡ true → r ≡ cookieCheck k b given → Considered run k b (cookie given) r
+  pub considered-cookie : (given : List ℕ) → enabled ≡ true → r ≡ cookieCheck k b given → Considered enabled k b (cookie given) r
   considered-cookie given n e = (rw (n, e), (rw (n, e), λ _. rw e))

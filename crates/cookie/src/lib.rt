@@ -90,19 +90,19 @@ fn no_option() -> OptionCheck
     checked(false, false, [0u8; 8])
 }
 
-// What is made of the option that was found in an area. Where cookies do not run, nothing is computed.
+// What is made of the option that was found in an area. Where cookies are not enabled, nothing is computed.
 pub fn check_option(
-    run: bool,
+    enabled: bool,
     keys: Keys,
     b: [u8; 16],
     area: &[u8],
     fast: FastOpenOption,
 ) -> OptionCheck
-    ensures { λ r. ⌜ r .right ≡ run && right keys b (found fast (now (area .entry))) ⌝ }
-    ensures { λ r. ⌜ r .fresh ≡ run && (counts (found fast (now (area .entry))) && not (rightUnder (keys .present) b (found fast (now (area .entry))))) ⌝ }
+    ensures { λ r. ⌜ r .right ≡ enabled && right keys b (found fast (now (area .entry))) ⌝ }
+    ensures { λ r. ⌜ r .fresh ≡ enabled && (counts (found fast (now (area .entry))) && not (rightUnder (keys .present) b (found fast (now (area .entry))))) ⌝ }
     ensures { λ r. ⌜ (r .fresh ≡ true → r .cookie ≡ cookieUnder (keys .present) b) ⌝ }
 {
-    if !run {
+    if !enabled {
         return no_option();
     }
     match fast {

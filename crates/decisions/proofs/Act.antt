@@ -8,7 +8,7 @@ use Rattle.segment.specs.Options.{optionsOf}
 use Rattle.segment.specs.declared.header.Header.{Header}
 use Rattle.segment.specs.declared.options.Options.{Options}
 use Rattle.protocol.specs.Cookie.{cookie, found, cookieUnder}
-use Rattle.protocol.specs.Step.{cookiesRun, isEarly, isFresh, accepts, newEvent, slotAfter, freshWith}
+use Rattle.protocol.specs.Step.{cookiesEnabled, isEarly, isFresh, accepts, newEvent, slotAfter, freshWith}
 use Rattle.protocol.specs.declared.state.View.{View}
 use Rattle.cookie.specs.declared.OptionCheck.{OptionCheck}
 use Rattle.decisions.specs.declared.action.Action.{Action}
@@ -38,7 +38,7 @@ module _ (v : View) (end : ℕ) (b : List ℕ) (h : Header) (iss : ℕ) (seg : L
 
   -- a new opening, by what its option was found to be
   module _ (o : OptionCheck) (options : Options) (area : List ℕ) (run : Bool)
-      (eo : options ≡ optionsOf seg) (ea : area ≡ optionArea seg) (er : run ≡ cookiesRun v) (c : Considered run (v .keys) b (found (options .fast) area) o) where
+      (eo : options ≡ optionsOf seg) (ea : area ≡ optionArea seg) (er : run ≡ cookiesEnabled v) (c : Considered run (v .keys) b (found (options .fast) area) o) where
     option-right : o .right ≡ isEarly v b seg
     option-right = rw (early-is v b seg, carried-found seg, sym eo, sym ea, sym er) (c .0)
 

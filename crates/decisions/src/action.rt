@@ -18,7 +18,7 @@ ghost use mathlib.Core.Bool.{true, false};
 ghost use Prim.Native.Nat.{min};
 ghost use lib.ListN.{length};
 ghost use Rattle.protocol.specs.Cookie.{cookieUnder};
-ghost use Rattle.protocol.specs.Step.{cookiesRun, openingEvent, segmentEvent, slotAfter, freshWith, writesSynAck};
+ghost use Rattle.protocol.specs.Step.{cookiesEnabled, openingEvent, segmentEvent, slotAfter, freshWith, writesSynAck};
 
 // What happened, the connection's slot after it, and the fresh cookie if one goes with the SYN-ACK.
 pub struct Action {
@@ -52,8 +52,8 @@ fn accept(payload: &[u8], early_room: u32) -> u32
 }
 
 // Cookies are taken and given while Fast Open is on and pending is below the limit.
-fn cookies_run(v: View) -> bool
-    ensures { λ r. ⌜ r ≡ cookiesRun v ⌝ }
+fn cookies_enabled(v: View) -> bool
+    ensures { λ r. ⌜ r ≡ cookiesEnabled v ⌝ }
 {
     let g = v.settings;
     if g.on { v.below } else { false }
@@ -69,7 +69,7 @@ fn open_new(v: View, end: u64, b: [u8; 16], h: Header, iss: u32, seg: &[u8]) -> 
     let keys = v.keys;
     let options = segment_options(seg);
     let fast = options.fast;
-    let option = check_option(cookies_run(v), keys, b, option_area(seg), fast);
+    let option = check_option(cookies_enabled(v), keys, b, option_area(seg), fast);
     let cookie = option.cookie;
     if option.right {
         let g = v.settings;

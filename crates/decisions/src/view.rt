@@ -1,11 +1,11 @@
-// What a call's outcome depends on.
+// What a call's checks, event and output depend on.
 use endpoint::checks::is_untimely;
 use protocol::slots::SLOTS;
 use protocol::slots::Scan;
 use protocol::slots::Slot;
-use protocol::state::InForce;
 use protocol::state::Keys;
 use protocol::state::LocalEndpoint;
+use protocol::state::StoredSettings;
 use protocol::state::View;
 ghost use mathlib.Core.Path.{_≡_};
 ghost use lib.Dec.{ltb};
@@ -16,7 +16,7 @@ ghost use Rattle.protocol.specs.Table.{slotCount};
 pub fn view_of(
     local: LocalEndpoint,
     clock: u64,
-    settings: InForce,
+    settings: StoredSettings,
     keys: Keys,
     time: u64,
     scan: Scan,

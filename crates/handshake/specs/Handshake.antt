@@ -6,6 +6,7 @@ use mathlib.Core.List.{List, [], _∷_}
 use mathlib.Core.Bool.{Bool, true, false, cond}
 use lib.ListN.{length, take}
 use Rattle.lists.specs.Bytes.{Bytes}
+use Rattle.segment.specs.Write.{longestSynAck}
 use Rattle.segment.specs.Refusal.{refusal}
 use Rattle.segment.specs.Header.{malformed, fieldsOf, payloadOf, kindOf}
 use Rattle.segment.specs.Checksum.{checksumRight}
@@ -16,7 +17,7 @@ use Rattle.segment.specs.declared.options.Mss.the-variants.{Given}
 use Rattle.endpoint.specs.Address.{block}
 use Rattle.endpoint.specs.Checks.{isUntimely}
 use Rattle.protocol.specs.Cookie.{Carried, nothing, request, cookie, cookieUnder, carriedBy, right}
-use Rattle.protocol.specs.Table.{freePlace, pendingAt}
+use Rattle.protocol.specs.Table.{slotCount, freePlace, pendingAt}
 use Rattle.protocol.specs.Call.{segment, acceptedOf, acceptedPart}
 use Rattle.protocol.specs.Call as listener-calls
 use Rattle.protocol.specs.View.{known, ownAddress, viewOf}
@@ -132,7 +133,7 @@ pub record OpeningRead (m : Memory) (a : Asked) : Type 0 where
 pub record Listens (l : Listener) (h : Arrival) : Type 0 where
   pub started : l .local .started ≡ true
   pub timely : isUntimely (l .clock) (h .time) ≡ false
-  pub out-len : 36 ≤ h .out-len
+  pub out-len : longestSynAck ≤ h .out-len
 
 -- a cookie that the listener issued for the address with this block: under its present key, or under the previous one if there is one
 pub data Issued (k : Keys) (b c : List ℕ) : Type 0 where
@@ -176,7 +177,7 @@ pub record Admits (m : Memory) (l : Listener) (a : Asked) (h : Arrival) : Type 0
   pub listens : Listens l h
   pub on : l .settings .on ≡ true
   pub below : pendingAt (h .time) (l .slots) < l .settings .limit
-  pub place : freePlace (h .time) (l .slots) < 64
+  pub place : freePlace (h .time) (l .slots) < slotCount
   pub new : known (viewOf l (arriving m a h)) ≡ false
   pub iss : h .iss < 2 ^ 32
   pub free : isBanned m a ≡ false

@@ -27,11 +27,11 @@ use protocol::slots::Scan;
 use protocol::slots::Slot;
 use protocol::slots::Status;
 use protocol::state::FRESH_MSS;
-use protocol::state::InForce;
 use protocol::state::Keys;
 use protocol::state::Listener;
 use protocol::state::LocalEndpoint;
 use protocol::state::Settings;
+use protocol::state::StoredSettings;
 use segment::header::kind_of;
 use segment::refusal::Check;
 use segment::refusal::Refusal;
@@ -91,7 +91,7 @@ fn blank_listener(local: LocalEndpoint, keys: Keys) -> Listener
         slots: [slot; SLOTS],
         keys,
         local,
-        settings: InForce {
+        settings: StoredSettings {
             on: false,
             limit: 0,
             early_room: 0,
@@ -298,7 +298,7 @@ pub fn set_settings(mut l: Listener, time: u64, g: Settings) -> Outcome
             if !is_in_range(g) {
                 return refused(l, Refusal::Range);
             }
-            let kept = InForce {
+            let kept = StoredSettings {
                 on: g.on,
                 limit: g.limit,
                 early_room: g.early_room,

@@ -1,3 +1,3 @@
--- Lists of any elements, then lists of bytes: the words of the definitions in the crates above. No protocol.
+-- Lists of any elements, then lists of bytes: for the definitions in the crates above. No protocol.
 pub mod Lists
 pub mod Bytes

@@ -33,7 +33,7 @@ use Rattle.protocol.specs.Call.{Call, segment, settings, key, abandon, r
 use Rattle.protocol.specs.View.{known, scanFor, view, viewOf}
 use Rattle.protocol.specs.Refusals.{kindChecks, checks, callCheck}
 use Rattle.protocol.specs.Step as steps
-use Rattle.protocol.specs.Step.{freshListener, startChecks, startedBy, startOf, newEvent, openingEvent, segmentEvent, doneEvent, heldUntil, slotAfter, moved, put, segmentAfter, freed, inForce, after, outcomeOf, step, pendingNumber}
+use Rattle.protocol.specs.Step.{freshListener, startChecks, startedBy, startOf, newEvent, openingEvent, segmentEvent, doneEvent, heldUntil, slotAfter, moved, put, segmentAfter, freed, storedSettings, after, outcomeOf, step, pendingNumber}
 use Rattle.protocol.specs.Journal.{Mark, markPlain, markEarly, markOpen, markHeld, Entry, PreviousKey, noKey, aKey, Journal, freshJournal, pendingOf, named, has, kept, only, removed, completed, resetMark, wasReset, with, amended, rightBefore, hasRight, opensEarly, newMark, opened, atTime, segmentNoted, noted, feed, Decision, newDecision, openingDecision, segmentDecision, doneDecision, journalDecision}
 use Rattle.protocol.specs.Demand3.{segmentOf, listenerDecision, listenerAfter, listenerDecisions, numbered, journalAfter, journalDecisions, Demand3}
 use Rattle.protocol.specs.declared.slots.Status.{Status}
@@ -62,7 +62,7 @@ Previous k (aKey b) = (k .rotated ≡ true) × (k .previous ≡ keyExpansion b)
 record Agrees (l : Listener) (j : Journal) : Type 0 where
   started : l .local .started ≡ true
   time : j .time ≡ l .clock
-  settings : l .settings ≡ inForce (j .settings)
+  settings : l .settings ≡ storedSettings (j .settings)
   present : l .keys .present ≡ keyExpansion (j .present)
   previous : Previous (l .keys) (j .previous)
   table : Table (l .local .family) (l .clock) (l .slots) (j .entries)
@@ -127,7 +127,7 @@ reset-entry t end n Established e = absurd (false≢true e)
 reset-thins : (end : ℕ) → Thins (wasReset end)
 reset-thins end p e = go (e .mark)
   where
-    go : (k : Mark) → tally (named p) (resetMark end (e .who) k) ≤ bit (named p e)
+    go : (k : Mark) → tally (named p) (resetMark end (e .peer) k) ≤ bit (named p e)
     go markPlain = omega arith
     go markEarly = omega arith
     go markOpen = omega arith
@@ -234,11 +234,11 @@ module _ (l : Listener) (j : Journal) (t : ℕ) (a : Agrees l j) (forward : l .c
 
     -- a new connection takes the lowest free place
     entered : (irs iss : ℕ) (st : Status) (k : Mark) → known (view l t p) ≡ false → view l t p .vacant ≡ true
-        → ((n : Peer) → entryFor t n st ≡ record { who = n; mark = k } ∷ [])
+        → ((n : Peer) → entryFor t n st ≡ record { peer = n; mark = k } ∷ [])
         → Agrees (put l t (scanFor l t p .free) (newSlot (block (p .address)) (p .port) irs iss st))
-        (with (atTime t j) (record { who = p; mark = k } ∷ atTime t j .entries))
+        (with (atTime t j) (record { peer = p; mark = k } ∷ atTime t j .entries))
     entered irs iss st k new out-len e =
-        put-agrees l j t i s (record { who = p; mark = k } ∷ atTime t j .entries) a (ap block (sym address))
+        put-agrees l j t i s (record { peer = p; mark = k } ∷ atTime t j .entries) a (ap block (sym address))
         (settled (match-add now p k i s none inside vacant entry))
       where
         i : ℕ
@@ -259,14 +259,14 @@ module _ (l : Listener) (j : Journal) (t : ℕ) (a : Agrees l j) (forward : l .c
         vacant : isLive t (getD (l .slots) i freeSlot .status) ≡ false
         vacant = not-true _ (first-passes (λ o. not (isLive t (o .status))) (l .slots) freeSlot inside)
 
-        entry : entryIn (l .local .family) t s ≡ record { who = p; mark = k } ∷ []
-        entry = e (nameOf (l .local .family) s) ∙ (λ x. record { who = record { address = address x; port = p .port }; mark = k } ∷ [])
+        entry : entryIn (l .local .family) t s ≡ record { peer = p; mark = k } ∷ []
+        entry = e (nameOf (l .local .family) s) ∙ (λ x. record { peer = record { address = address x; port = p .port }; mark = k } ∷ [])
 
   -- a segment from an address of the family
   module _ (src seg : List ℕ) (iss out-len : ℕ) (local : length src ≡ size (l .local .family)) where
     new-follows : known (view l t (sender src seg)) ≡ false → view l t (sender src seg) .vacant ≡ true → (b : Bool)
         → SegmentFollows l t src seg iss out-len (newEvent b (min (length (payloadOf seg)) (l .settings .«early_room»)))
-        (with (atTime t j) (record { who = sender src seg; mark = newMark b } ∷ atTime t j .entries)) (newDecision b (atTime t j) seg)
+        (with (atTime t j) (record { peer = sender src seg; mark = newMark b } ∷ atTime t j .entries)) (newDecision b (atTime t j) seg)
     new-follows new free true =
         record {
           agrees = entered (sender src seg) local (fieldsOf seg .seq) iss (SynReceivedEarly (min (length (payloadOf seg)) (l .settings .«early_room»))) markEarly new free (λ m. refl);

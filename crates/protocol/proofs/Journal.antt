@@ -40,13 +40,13 @@ entryIn f t s = entryFor t (nameOf f s) (s .status)
 
 -- a slot is live and has one entry, which has not ended, or it is free and has none
 pub by-entry : (t : ℕ) (p : Peer) (st : Status) (Q : Bool → List Entry → Type 0) → Q false []
-    → ((k : Mark) → keptMark t p k ≡ record { who = p; mark = k } ∷ [] → Q true (record { who = p; mark = k } ∷ [])) → Q (isLive t st) (entryFor t p st)
+    → ((k : Mark) → keptMark t p k ≡ record { peer = p; mark = k } ∷ [] → Q true (record { peer = p; mark = k } ∷ [])) → Q (isLive t st) (entryFor t p st)
 by-entry t p Free Q none one = none
 by-entry t p SynReceived Q none one = one markPlain refl
 by-entry t p (SynReceivedEarly n) Q none one = one markEarly refl
 by-entry t p (ResetHeld end) Q none one = go (ltb t end) refl
   where
-    go : (b : Bool) → ltb t end ≡ b → Q b (cond b (record { who = p; mark = markHeld end } ∷ []) [])
+    go : (b : Bool) → ltb t end ≡ b → Q b (cond b (record { peer = p; mark = markHeld end } ∷ []) [])
     go true e = one (markHeld end) (rw e)
     go false e = none
 by-entry t p Established Q none one = one markOpen refl
@@ -90,12 +90,12 @@ thinned rule h p es = omega (arith, sum-amend (λ e. bit (named p e)) rule es, s
 kept-thins : (t : ℕ) → Thins (kept t)
 kept-thins t p e = go (e .mark)
   where
-    go : (k : Mark) → tally (named p) (keptMark t (e .who) k) ≤ bit (named p e)
+    go : (k : Mark) → tally (named p) (keptMark t (e .peer) k) ≤ bit (named p e)
     go markPlain = omega arith
     go markEarly = omega arith
     go markOpen = omega arith
     go (markHeld end) =
-        elim (ltb t end) as (λ b. tally (named p) (cond b (record { who = e .who; mark = markHeld end } ∷ []) []) ≤ bit (named p e))
+        elim (ltb t end) as (λ b. tally (named p) (cond b (record { peer = e .peer; mark = markHeld end } ∷ []) []) ≤ bit (named p e))
         [ true ↦ omega arith | false ↦ omega arith ]
 
 only-thins : (n : Peer) (rule : Entry → List Entry) → Thins rule → Thins (only n rule)
@@ -113,7 +113,7 @@ kept-later t t′ h p markOpen = refl
 kept-later t t′ h p (markHeld end) = go (ltb t end) (ltb t′ end) refl refl
   where
     x : Entry
-    x = record { who = p; mark = markHeld end }
+    x = record { peer = p; mark = markHeld end }
 
     go : (a b : Bool) → ltb t end ≡ a → ltb t′ end ≡ b → amend (kept t′) (cond a (x ∷ []) []) ≡ cond b (x ∷ []) []
     go true true p q = ap (λ c. cond c (x ∷ []) [] ++ []) q
@@ -127,7 +127,7 @@ kept-pends t p markEarly = refl
 kept-pends t p markOpen = refl
 kept-pends t p (markHeld end) = go (ltb t end) refl
   where
-    go : (b : Bool) → ltb t end ≡ b → tally (λ (e : Entry). pends t (e .mark)) (cond b (record { who = p; mark = markHeld end } ∷ []) []) ≡ bit b
+    go : (b : Bool) → ltb t end ≡ b → tally (λ (e : Entry). pends t (e .mark)) (cond b (record { peer = p; mark = markHeld end } ∷ []) []) ≡ bit b
     go true e = ap (λ c. bit c + 0) e
     go false e = refl
 
@@ -175,7 +175,7 @@ module _ {f : Family} {t : ℕ} {slots : List Slot} {es : List Entry} (m : Match
 
   -- a new entry, and a slot for it in a place that was free
   pub match-add : (p : Peer) (k : Mark) (i : ℕ) (s : Slot) → tally (named p) es ≡ 0 → i < length slots → isLive t (getD slots i freeSlot .status) ≡ false
-      → entryIn f t s ≡ record { who = p; mark = k } ∷ [] → Match f t (set slots i s) (record { who = p; mark = k } ∷ es)
+      → entryIn f t s ≡ record { peer = p; mark = k } ∷ [] → Match f t (set slots i s) (record { peer = p; mark = k } ∷ es)
   match-add p k i s none h free e =
       record {
         same = λ w. omega (arith, m .same w, sum-set (λ x. sum w (entryIn f t x)) slots i s freeSlot h, ap (sum w) e, ap (sum w) (bare free));
@@ -205,12 +205,12 @@ settled {t} m = match-later m t (omega arith)
 pub turned-on : (f : Family) (t t′ : ℕ) (slots : List Slot) (es : List Entry) → t ≤ t′ → Settled f t slots es → Match f t′ slots (amend (kept t′) es)
 turned-on f t t′ slots es h m =
     subst (λ xs. Match f t′ slots xs)
-    (amend-amend (kept t) (kept t′) es ∙ amend-ext _ _ (λ e. kept-later t t′ h (e .who) (e .mark)) es)
+    (amend-amend (kept t) (kept t′) es ∙ amend-ext _ _ (λ e. kept-later t t′ h (e .peer) (e .mark)) es)
     (match-later m t′ h)
 
 -- what has ended does not pend
 pub pending-settled : (t : ℕ) (es : List Entry) → tally (λ e. pends t (e .mark)) (amend (kept t) es) ≡ tally (λ e. pends t (e .mark)) es
-pending-settled t es = sum-amend _ (kept t) es ∙ sum-ext _ _ (λ e. kept-pends t (e .who) (e .mark)) es
+pending-settled t es = sum-amend _ (kept t) es ∙ sum-ext _ _ (λ e. kept-pends t (e .peer) (e .mark)) es
 
 -- a peer's entry changes by a rule, and its slot to what the rule leaves of the slot's entry
 pub settled-amend : (f : Family) (t : ℕ) (slots : List Slot) (es : List Entry) (p : Peer) (rule : Entry → List Entry) (i : ℕ) (s : Slot)

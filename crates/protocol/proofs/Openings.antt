@@ -23,7 +23,7 @@ use Rattle.protocol.specs.Table.{isLive, isPending, isFree, freeSlot, ne
 use Rattle.protocol.specs.Call.{segment, sender}
 use Rattle.protocol.specs.View.{known, view}
 use Rattle.protocol.specs.Refusals.{wireChecks, callCheck}
-use Rattle.protocol.specs.Step.{cookiesRun, accepts, isEarly, isFresh, newEvent, synAckTo, put, after, step}
+use Rattle.protocol.specs.Step.{cookiesEnabled, accepts, isEarly, isFresh, newEvent, synAckTo, put, after, step}
 use Rattle.protocol.specs.declared.slots.Status.{Status}
 use Rattle.protocol.specs.declared.slots.Status.the-variants.{Free, SynReceived, SynReceivedEarly, ResetHeld, Established}
 use Rattle.protocol.specs.declared.slots.Slot.{Slot}
@@ -109,12 +109,12 @@ pub is-early : (l : Listener) (t : ℕ) (src seg : List ℕ) → l .settings .on
 unfolding isEarly
 is-early l t src seg on below r = rw (on, lt-ltb (pendingAt t (l .slots)) (l .settings .limit) below, r)
 
--- a new opening is early, and its SYN-ACK has a fresh cookie, where cookies run and by what it carries
-pub early-is : (v : View) (b seg : List ℕ) → isEarly v b seg ≡ cookiesRun v && right (v .keys) b (carriedBy seg)
+-- a new opening is early, and its SYN-ACK has a fresh cookie, where cookies are enabled and by what it carries
+pub early-is : (v : View) (b seg : List ℕ) → isEarly v b seg ≡ cookiesEnabled v && right (v .keys) b (carriedBy seg)
 unfolding isEarly
 early-is v b seg = refl
 
-pub fresh-is : (v : View) (b seg : List ℕ) → isFresh v b seg ≡ cookiesRun v && (counts (carriedBy seg) && not (rightUnder (v .keys .present) b (carriedBy seg)))
+pub fresh-is : (v : View) (b seg : List ℕ) → isFresh v b seg ≡ cookiesEnabled v && (counts (carriedBy seg) && not (rightUnder (v .keys .present) b (carriedBy seg)))
 unfolding isFresh
 fresh-is v b seg = refl
 

@@ -16,7 +16,7 @@ use Rattle.endpoint.specs.Address.{block}
 use Rattle.protocol.specs.Table.{pendingAt}
 use Rattle.protocol.specs.Call.{segment, sender}
 use Rattle.protocol.specs.View.{view}
-use Rattle.protocol.specs.Step.{cookiesRun, isEarly, isFresh, accepts, step, pendingNumber}
+use Rattle.protocol.specs.Step.{cookiesEnabled, isEarly, isFresh, accepts, step, pendingNumber}
 use Rattle.protocol.specs.Refusals.{completes, kindChecks}
 use Rattle.protocol.specs.Sixteen.{NewOpening, HasRight, CompletesFive, Sixteen}
 use Rattle.protocol.specs.declared.state.View.{View}
@@ -26,14 +26,14 @@ use Rattle.protocol.proofs.DoneOutput.{opening-written}
 use Rattle.protocol.proofs.Openings.{slotFor, pending-put, is-early, clear-new, step-new}
 
 -- where pending is at the limit no cookie is taken or given
-at-limit : (l : Listener) (t : ℕ) (src seg : List ℕ) → l .settings .limit ≤ pendingAt t (l .slots) → cookiesRun (view l t (sender src seg)) ≡ false
+at-limit : (l : Listener) (t : ℕ) (src seg : List ℕ) → l .settings .limit ≤ pendingAt t (l .slots) → cookiesEnabled (view l t (sender src seg)) ≡ false
 at-limit l t src seg h = rw (le-ltb (pendingAt t (l .slots)) (l .settings .limit) h) (and-false (l .settings .on))
 
-not-early : (v : View) (b seg : List ℕ) → cookiesRun v ≡ false → isEarly v b seg ≡ false
+not-early : (v : View) (b seg : List ℕ) → cookiesEnabled v ≡ false → isEarly v b seg ≡ false
 unfolding isEarly
 not-early v b seg e = rw e
 
-not-fresh : (v : View) (b seg : List ℕ) → cookiesRun v ≡ false → isFresh v b seg ≡ false
+not-fresh : (v : View) (b seg : List ℕ) → cookiesEnabled v ≡ false → isFresh v b seg ≡ false
 unfolding isFresh
 not-fresh v b seg e = rw e
 

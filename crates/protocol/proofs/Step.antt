@@ -27,7 +27,7 @@ use Rattle.protocol.specs.Table.{isWaiting}
 use Rattle.protocol.specs.Call.{Call, segment, settings, key, abandon, resend, close, sender}
 use Rattle.protocol.specs.View.{ownAddress, scanFor, view}
 use Rattle.protocol.specs.Refusals.{inRange, isKey, isReleasable, releaseOf, outputChecks, kindChecks, wireChecks, callCheck}
-use Rattle.protocol.specs.Step.{segmentEvent, heldUntil, slotAfter, freshWith, synAckFrom, synAckTo, writesSynAck, segmentOutput, segmentAfter, moved, freed, inForce, withKey, after, step, outputOf}
+use Rattle.protocol.specs.Step.{segmentEvent, heldUntil, slotAfter, freshWith, synAckFrom, synAckTo, writesSynAck, segmentOutput, segmentAfter, moved, freed, storedSettings, withKey, after, step, outputOf}
 use Rattle.protocol.specs.declared.state.Settings.{Settings}
 use Rattle.protocol.specs.declared.state.LocalEndpoint.{LocalEndpoint}
 use Rattle.protocol.specs.declared.state.View.{View}
@@ -69,7 +69,7 @@ module _ (l : Listener) (t : ℕ) where
           step-refused l (settings t g) (passed _ _ _ (checked-settings l t g) first ∙ at)
 
       pub settings-done : inRange g ≡ true
-          → step l (settings t g) ≡ doneWith (record { slots = l .slots; keys = l .keys; local = l .local; settings = inForce g; clock = t })
+          → step l (settings t g) ≡ doneWith (record { slots = l .slots; keys = l .keys; local = l .local; settings = storedSettings g; clock = t })
       unfolding after
       settings-done e =
           let at : cond (not (inRange g)) (Refused Range) Clear ≡ Clear = rw e in

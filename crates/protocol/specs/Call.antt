@@ -14,6 +14,10 @@ use Rattle.protocol.specs.declared.state.Settings.{Settings}
 use Rattle.protocol.specs.declared.outcome.Event.{Event}
 use Rattle.protocol.specs.declared.outcome.Event.the-variants.{Refused, FastOpened, Regular, Retransmission, Completed, WasReset, Done}
 
+-- own MSS until a settings call
+abbrev pub freshMss : ℕ
+freshMss = 536
+
 -- A call with its arguments, the time first. A segment has its source address, its bytes, our initial number and the output's length; a call by name has an
 -- address and a port, and a resend the output's length too.
 pub data Call : Type 0 where

@@ -8,13 +8,12 @@ use lib.Dec.{ltb}
 use lib.ListN.{length, take}
 use Rattle.cipher.specs.KeyExpansion.{keyExpansion}
 use Rattle.segment.specs.Header.{fieldsOf, payloadOf, kindOf}
-use Rattle.segment.specs.Options.{leastMss}
 use Rattle.segment.specs.declared.header.Kind.{Kind}
 use Rattle.segment.specs.declared.header.Kind.the-variants.{Syn, Rst, Ack, Other}
 use Rattle.lists.specs.Lists.{tally, amend}
 use Rattle.endpoint.specs.Address.{Peer, samePeer, block}
 use Rattle.protocol.specs.Cookie.{Carried, carriedBy, rightUnder}
-use Rattle.protocol.specs.Call.{Call, segment, settings, key, abandon, resend, close, sender, timeOf, Verdict, early, plain, repeat, noVerdict}
+use Rattle.protocol.specs.Call.{freshMss, Call, segment, settings, key, abandon, resend, close, sender, timeOf, Verdict, early, plain, repeat, noVerdict}
 use Rattle.protocol.specs.declared.state.Settings.{Settings}
 
 -- what is noted of a connection
@@ -24,7 +23,7 @@ pub data Mark : Type 0 where
 
 -- an entry, by name
 pub record Entry : Type 0 where
-  pub who : Peer
+  pub peer : Peer
   pub mark : Mark
 
 pub data PreviousKey : Type 0 where
@@ -43,7 +42,7 @@ abbrev pub freshJournal : List ℕ → ℕ → List ℕ → Journal
 freshJournal own port k =
     record {
       time = 0;
-      settings = record { on = false; limit = 0; «early_room» = 0; hold = 0; mss = leastMss };
+      settings = record { on = false; limit = 0; «early_room» = 0; hold = 0; mss = freshMss };
       present = k;
       previous = noKey;
       entries = [];
@@ -65,7 +64,7 @@ settingsOf j = j .settings
 
 -- Entries are found by name.
 abbrev pub named : Peer → Entry → Bool
-named p e = samePeer p (e .who)
+named p e = samePeer p (e .peer)
 
 abbrev pub has : Peer → List Entry → Bool
 has p entries = ltb 0 (tally (named p) entries)
@@ -74,13 +73,13 @@ has p entries = ltb 0 (tally (named p) entries)
 
 -- a held one that ends at or before the time is struck out
 abbrev pub keptMark : ℕ → Peer → Mark → List Entry
-keptMark t p markPlain = record { who = p; mark = markPlain } ∷ []
-keptMark t p markEarly = record { who = p; mark = markEarly } ∷ []
-keptMark t p markOpen = record { who = p; mark = markOpen } ∷ []
-keptMark t p (markHeld end) = cond (ltb t end) (record { who = p; mark = markHeld end } ∷ []) []
+keptMark t p markPlain = record { peer = p; mark = markPlain } ∷ []
+keptMark t p markEarly = record { peer = p; mark = markEarly } ∷ []
+keptMark t p markOpen = record { peer = p; mark = markOpen } ∷ []
+keptMark t p (markHeld end) = cond (ltb t end) (record { peer = p; mark = markHeld end } ∷ []) []
 
 abbrev pub kept : ℕ → Entry → List Entry
-kept t e = keptMark t (e .who) (e .mark)
+kept t e = keptMark t (e .peer) (e .mark)
 
 -- a rule for the entry of one name; others stay
 abbrev pub only : Peer → (Entry → List Entry) → Entry → List Entry
@@ -90,17 +89,17 @@ abbrev pub removed : Entry → List Entry
 removed e = []
 
 abbrev pub completed : Entry → List Entry
-completed e = record { who = e .who; mark = markOpen } ∷ []
+completed e = record { peer = e .peer; mark = markOpen } ∷ []
 
 -- plain is struck out, early is held until an end
 abbrev pub resetMark : ℕ → Peer → Mark → List Entry
 resetMark end p markPlain = []
-resetMark end p markEarly = record { who = p; mark = markHeld end } ∷ []
-resetMark end p markOpen = record { who = p; mark = markOpen } ∷ []
-resetMark end p (markHeld e) = record { who = p; mark = markHeld e } ∷ []
+resetMark end p markEarly = record { peer = p; mark = markHeld end } ∷ []
+resetMark end p markOpen = record { peer = p; mark = markOpen } ∷ []
+resetMark end p (markHeld e) = record { peer = p; mark = markHeld e } ∷ []
 
 abbrev pub wasReset : ℕ → Entry → List Entry
-wasReset end e = resetMark end (e .who) (e .mark)
+wasReset end e = resetMark end (e .peer) (e .mark)
 
 abbrev pub with : Journal → List Entry → Journal
 with j entries = record { time = j .time; settings = j .settings; present = j .present; previous = j .previous; entries = entries }
@@ -129,7 +128,7 @@ newMark false = markPlain
 -- a name with an entry is a repeat; another gets one
 abbrev pub opened : Bool → Journal → List ℕ → List ℕ → Journal
 opened true j src seg = j
-opened false j src seg = with j (record { who = sender src seg; mark = newMark (opensEarly j src seg) } ∷ j .entries)
+opened false j src seg = with j (record { peer = sender src seg; mark = newMark (opensEarly j src seg) } ∷ j .entries)
 
 -- One call
 

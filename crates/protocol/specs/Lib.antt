@@ -1,4 +1,4 @@
--- The listener's rules, as document 01 defines them. In reading order: the cookie; the slots; the calls and what an event is in 01's words; what a call's outcome depends on in the
+-- The listener's rules, as document 01 defines them. In reading order: the cookie; the slots; the calls and what an event is in 01's words; what a call's checks, event and output depend on in the
 -- listener; its refusals; the call itself; the journal of the calls and demand 3; the two openings; and the table of sixteen.
 pub mod Cookie
 pub mod Table

@@ -17,7 +17,7 @@ use Rattle.segment.specs.declared.header.Header.{Header}
 use Rattle.segment.specs.declared.header.Kind.{Kind}
 use Rattle.segment.specs.declared.header.Kind.the-variants.{Syn, Rst, Ack, Other}
 use Rattle.endpoint.specs.Checks.{timely, addressed}
-use Rattle.protocol.specs.Table.{slotCount, isWaiting, isEstablished, acceptedWith}
+use Rattle.protocol.specs.Table.{isWaiting, isEstablished, acceptedWith}
 use Rattle.protocol.specs.Call.{Call, segment, settings, key, abandon, resend, close}
 use Rattle.protocol.specs.View.{known, ownAddress, viewOf}
 use Rattle.protocol.specs.declared.state.Settings.{Settings}
@@ -29,7 +29,10 @@ use Rattle.protocol.specs.declared.slots.Slot.{Slot}
 
 -- Named checks
 
--- the most early data of one opening in bytes, and the longest hold in ms
+-- the most that a settings call may ask for: as limit, as early room in bytes, as hold in ms
+abbrev pub mostLimit : ℕ
+mostLimit = 64
+
 abbrev pub mostEarlyRoom : ℕ
 mostEarlyRoom = 1460
 
@@ -38,7 +41,7 @@ mostHold = 65535
 
 -- not 12: limit 0 to 64, early room 0 to 1,460, hold 0 to 65,535, MSS 536 to 1,460
 unfoldable pub inRange : Settings → Bool
-inRange g = leb (g .limit) slotCount && (leb (g .«early_room») mostEarlyRoom && (leb (g .hold) mostHold && (leb leastMss (g .mss) && leb (g .mss) mostMss)))
+inRange g = leb (g .limit) mostLimit && (leb (g .«early_room») mostEarlyRoom && (leb (g .hold) mostHold && (leb leastMss (g .mss) && leb (g .mss) mostMss)))
 
 -- not 12: a key has 16 bytes
 abbrev pub isKey : List ℕ → Bool
@@ -62,7 +65,7 @@ resets s h = eqb (h .seq) (expected s)
 
 -- Checks that calls share
 
--- 01's answer, the SYN-ACK, has at most 36 bytes
+-- 11: 01's answer, the SYN-ACK, has at most 36 bytes
 abbrev pub outputChecks : ℕ → Checks
 outputChecks out-len = (Output, ltb out-len longestSynAck) ∷ []
 
@@ -83,11 +86,11 @@ kindChecks v h Other = (Flags, true) ∷ []
 
 -- what is asked of a segment before its kind
 abbrev pub wireChecks : LocalEndpoint → Bool → List ℕ → List ℕ → ℕ → Checks
-wireChecks h untimely src seg out-len =
-    timely (h .started) untimely ++ addressed (h .family) src ++ outputChecks out-len
+wireChecks local untimely src seg out-len =
+    timely (local .started) untimely ++ addressed (local .family) src ++ outputChecks out-len
     ++ ((Format, malformed seg)
-    ∷ (Checksum, not (checksumRight src (ownAddress h) seg))
-    ∷ (Port, not (eqb (fieldsOf seg .dest) (h .port))) ∷ [])
+    ∷ (Checksum, not (checksumRight src (ownAddress local) seg))
+    ∷ (Port, not (eqb (fieldsOf seg .dest) (local .port))) ∷ [])
 
 -- the checks of a call
 abbrev pub checks : View → Call → Checks

@@ -1,4 +1,4 @@
--- Document 01, "Listener": the start, and one call on a listener with its outcome (the listener next and what happened) and what is written.
+-- Document 01, "Listener": the start, and one call on a listener with its outcome: the listener next, what happened and what is written.
 -- Assumes nothing.
 use Prim.Native.Nat.{ℕ, _+_, min}
 use mathlib.Core.List.{List, [], _∷_}
@@ -7,7 +7,6 @@ use lib.ListN.{length, replicate, set}
 use Rattle.cipher.specs.KeyExpansion.{keyExpansion}
 use Rattle.segment.specs.Refusal.{Checks, refusal}
 use Rattle.segment.specs.Header.{fieldsOf, payloadOf, kindOf}
-use Rattle.segment.specs.Options.{leastMss}
 use Rattle.segment.specs.Write.{synAckBytes}
 use Rattle.segment.specs.declared.refusal.Refusal.the-variants.{Address, Range}
 use Rattle.segment.specs.declared.refusal.Check.{Check}
@@ -20,14 +19,14 @@ use Rattle.endpoint.specs.Address.{Peer, isSize, familyOf, block}
 use Rattle.endpoint.specs.declared.address.Family.the-variants.{V4}
 use Rattle.protocol.specs.Cookie.{carriedBy, counts, cookieUnder, rightUnder, right}
 use Rattle.protocol.specs.Table.{slotCount, acceptedWith, afterReset, freeSlot, newSlot, withStatus, pendingAt}
-use Rattle.protocol.specs.Call.{Call, segment, settings, key, abandon, resend, close, sender}
+use Rattle.protocol.specs.Call.{freshMss, Call, segment, settings, key, abandon, resend, close, sender}
 use Rattle.protocol.specs.View.{known, ownAddress, scanFor, view, viewOf}
 use Rattle.protocol.specs.Refusals.{isKey, callCheck}
 use Rattle.protocol.specs.declared.slots.Status.the-variants.{Free, SynReceived, SynReceivedEarly, Established}
 use Rattle.protocol.specs.declared.slots.Slot.{Slot}
 use Rattle.protocol.specs.declared.slots.Scan.{Scan}
 use Rattle.protocol.specs.declared.state.Settings.{Settings}
-use Rattle.protocol.specs.declared.state.InForce.{InForce}
+use Rattle.protocol.specs.declared.state.StoredSettings.{StoredSettings}
 use Rattle.protocol.specs.declared.state.Keys.{Keys}
 use Rattle.protocol.specs.declared.state.LocalEndpoint.{LocalEndpoint}
 use Rattle.protocol.specs.declared.state.View.{View}
@@ -40,12 +39,12 @@ use Rattle.protocol.specs.declared.outcome.Started.{Started}
 -- The start
 
 -- "Fresh state": Fast Open off, limit, early room and hold 0, own MSS 536
-abbrev pub freshSettings : InForce
-freshSettings = record { on = false; limit = 0; «early_room» = 0; hold = 0; mss = leastMss }
+abbrev pub freshSettings : StoredSettings
+freshSettings = record { on = false; limit = 0; «early_room» = 0; hold = 0; mss = freshMss }
 
 -- a listener with no connection, at time 0
 abbrev pub blank : LocalEndpoint → Keys → Listener
-blank h k = record { slots = replicate slotCount freeSlot; keys = k; local = h; settings = freshSettings; clock = 0 }
+blank local k = record { slots = replicate slotCount freeSlot; keys = k; local = local; settings = freshSettings; clock = 0 }
 
 -- one that was never started: every call on it returns 13
 abbrev pub neverStarted : Listener
@@ -72,19 +71,19 @@ startOf own port k = startedBy own port k (refusal (startChecks own k))
 -- An opening
 
 -- cookies are taken and given: Fast Open is on and pending is below the limit
-abbrev pub cookiesRun : View → Bool
-cookiesRun v = v .settings .on && v .below
+abbrev pub cookiesEnabled : View → Bool
+cookiesEnabled v = v .settings .on && v .below
 
 -- a new opening, from the address with this block, is early
 unfoldable pub isEarly : View → List ℕ → List ℕ → Bool
-isEarly v b seg = cookiesRun v && right (v .keys) b (carriedBy seg)
+isEarly v b seg = cookiesEnabled v && right (v .keys) b (carriedBy seg)
 
 -- a new opening's SYN-ACK has a fresh cookie
 unfoldable pub isFresh : View → List ℕ → List ℕ → Bool
-isFresh v b seg = cookiesRun v && (counts (carriedBy seg) && not (rightUnder (v .keys .present) b (carriedBy seg)))
+isFresh v b seg = cookiesEnabled v && (counts (carriedBy seg) && not (rightUnder (v .keys .present) b (carriedBy seg)))
 
 -- the accepted bytes of an early one: the smaller of payload and early room
-abbrev pub accepts : InForce → List ℕ → ℕ
+abbrev pub accepts : StoredSettings → List ℕ → ℕ
 accepts g seg = min (length (payloadOf seg)) (g .«early_room»)
 
 abbrev pub newEvent : Bool → ℕ → Event
@@ -129,8 +128,8 @@ slotAfter v end b h iss (events.Refused r) = v .slot
 
 -- "Answer", from a slot, with the MSS now set
 abbrev pub synAckFrom : LocalEndpoint → ℕ → Slot → Bool → SynAck
-synAckFrom h mss s fresh =
-    record { source = h .port; dest = s .port; iss = s .iss; irs = s .irs; accepted = acceptedWith (s .status); mss = mss; fresh = fresh }
+synAckFrom local mss s fresh =
+    record { source = local .port; dest = s .port; iss = s .iss; irs = s .irs; accepted = acceptedWith (s .status); mss = mss; fresh = fresh }
 
 -- to an address, in an output of this length; a fresh cookie is the one under the present key
 abbrev pub synAckTo : View → List ℕ → Slot → Bool → ℕ → List ℕ
@@ -194,8 +193,8 @@ abbrev pub freed : Listener → ℕ → Peer → Listener
 freed l t p = put l t (scanFor l t p .place) (withStatus (view l t p .slot) Free)
 
 -- settings as they are kept
-abbrev pub inForce : Settings → InForce
-inForce g = record { on = g .on; limit = g .limit; «early_room» = g .«early_room»; hold = g .hold; mss = g .mss }
+abbrev pub storedSettings : Settings → StoredSettings
+storedSettings g = record { on = g .on; limit = g .limit; «early_room» = g .«early_room»; hold = g .hold; mss = g .mss }
 
 -- the present key becomes the previous one
 abbrev pub withKey : Keys → List ℕ → Keys
@@ -207,7 +206,7 @@ after l (segment t src seg iss out-len) =
     let v = view l t p in
     let e = doneEvent v (segment t src seg iss out-len) in
     segmentAfter l t (scanFor l t p) e (slotAfter v (heldUntil v t) (block src) (fieldsOf seg) iss e)
-after l (settings t g) = record { slots = l .slots; keys = l .keys; local = l .local; settings = inForce g; clock = t }
+after l (settings t g) = record { slots = l .slots; keys = l .keys; local = l .local; settings = storedSettings g; clock = t }
 after l (key t k) = record { slots = l .slots; keys = withKey (l .keys) k; local = l .local; settings = l .settings; clock = t }
 after l (abandon t a p) = freed l t (record { address = a; port = p })
 after l (resend t a p out-len) = moved l t (l .slots)

@@ -1,4 +1,4 @@
--- Document 01, "Listener": what a call's outcome depends on: the listener at the call's time and for its peer. No outcome depends on the place where a
+-- Document 01, "Listener": what a call's checks, event and output depend on: the listener at the call's time and for its peer. They do not depend on the place where a
 -- slot stands.
 -- Assumes nothing.
 use Prim.Native.Nat.{ℕ}
@@ -11,14 +11,14 @@ use Rattle.endpoint.specs.Checks.{isUntimely}
 use Rattle.protocol.specs.Table.{slotCount, isFree, freeSlot, scanOf}
 use Rattle.protocol.specs.Call.{Call, timeOf, peerOf}
 use Rattle.protocol.specs.declared.state.LocalEndpoint.{LocalEndpoint}
-use Rattle.protocol.specs.declared.state.InForce.{InForce}
+use Rattle.protocol.specs.declared.state.StoredSettings.{StoredSettings}
 use Rattle.protocol.specs.declared.state.Listener.{Listener}
 use Rattle.protocol.specs.declared.state.View.{View}
 use Rattle.protocol.specs.declared.slots.Slot.{Slot}
 use Rattle.protocol.specs.declared.slots.Scan.{Scan}
 
 -- the settings in force at a time
-abbrev pub settingsAt : Listener → ℕ → InForce
+abbrev pub settingsAt : Listener → ℕ → StoredSettings
 settingsAt l t = l .settings
 
 -- the slot at a place; past the table, the free slot
@@ -54,4 +54,4 @@ known v = not (isFree (v .slot .status))
 
 -- own address, out of its block
 abbrev pub ownAddress : LocalEndpoint → List ℕ
-ownAddress h = take (size (h .family)) (h .own)
+ownAddress local = take (size (local .family)) (local .own)

@@ -1,9 +1,9 @@
-// What a call comes to.
+// The outcome of a call.
 use crate::state::Listener;
 use segment::refusal::Check;
 use segment::refusal::Refusal;
 
-// What a call came to. Of an opening it is the verdict: `FastOpened` is document 01's early, with its accepted count, `Regular` its plain and
+// What happened. Of an opening it is the verdict: `FastOpened` is document 01's early, with its accepted count, `Regular` its plain and
 // `Retransmission` its repeat. `Completed` and `WasReset` are a completion and a reset; `Done` is any other call that is done.
 pub enum Event {
     Refused(Refusal),

@@ -25,7 +25,7 @@ numberOf Output = 11
 numberOf Range = 12
 numberOf NotStarted = 13
 
--- the order in which they apply
+-- the order in which they are tested
 abbrev pub order : List Refusal
 order =
     NotStarted ∷ Time ∷ Address ∷ Output ∷ Format ∷ Checksum ∷ Port ∷ Flags

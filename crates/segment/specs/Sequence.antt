@@ -12,9 +12,13 @@ nextAfter initial bytes = (initial + 1 + bytes) % 2 ^ 32
 unfoldable pub difference : ℕ → ℕ → ℕ
 difference a b = (a + 2 ^ 32 - b) % 2 ^ 32
 
+-- the window, which is that of every segment that is written
+abbrev pub window : ℕ
+window = 65535
+
 -- a completion's sequence number is admitted: it lies less than 65,535 past the expected one
 unfoldable pub inWindow : ℕ → ℕ → Bool
-inWindow expected seq = ltb (difference seq expected) 65535
+inWindow expected seq = ltb (difference seq expected) window
 
 -- how many of the bytes sent with an opening its SYN-ACK acknowledges: acknowledgement − our number − 1
 unfoldable pub acknowledged : ℕ → ℕ → ℕ

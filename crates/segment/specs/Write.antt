@@ -9,7 +9,7 @@ use Rattle.segment.specs.Bytes.{be16, be32}
 use Rattle.segment.specs.Header.{SYN, ACK, longestSegment}
 use Rattle.segment.specs.Options.{isCookieLength}
 use Rattle.segment.specs.Checksum.{complement, oneFamily, segmentSum}
-use Rattle.segment.specs.Sequence.{nextAfter}
+use Rattle.segment.specs.Sequence.{nextAfter, window}
 use Rattle.segment.specs.declared.write.Outgoing.{Outgoing}
 use Rattle.segment.specs.declared.write.SynAck.{SynAck}
 use Rattle.segment.specs.declared.write.Opening.{Opening}
@@ -42,7 +42,7 @@ optionBytes mss true cookie = padded (mssBytes mss ++ fastOpenBytes cookie)
 unfoldable pub headerBytes : Outgoing → ℕ → ℕ → List ℕ
 headerBytes f offset check =
     be16 (f .source) ++ be16 (f .dest) ++ be32 (f .seq) ++ be32 (f .ack)
-    ++ (offset * 16 ∷ f .flags ∷ []) ++ be16 65535 ++ be16 check ++ be16 0
+    ++ (offset * 16 ∷ f .flags ∷ []) ++ be16 window ++ be16 check ++ be16 0
 
 -- a header with a checksum before its options and payload
 unfoldable pub segmentWith : Outgoing → ℕ → List ℕ → List ℕ → List ℕ

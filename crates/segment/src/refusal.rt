@@ -1,4 +1,4 @@
-// The refusals that listener and client share. The order in which they apply is in specs/Refusal.antt.
+// The refusals that listener and client share. The order in which they are tested is in specs/Refusal.antt.
 ghost use mathlib.Core.Path.{_≡_};
 ghost use Rattle.segment.specs.Refusal.{numberOf};
 

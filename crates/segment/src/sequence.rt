@@ -11,12 +11,15 @@ pub fn next_after(initial: u32, bytes: u32) -> u32
     wrapping_add_u32(wrapping_add_u32(initial, 1), bytes)
 }
 
+// The window, which is that of every segment that is written.
+pub const WINDOW: u32 = 65535;
+
 // Whether a completion's sequence number is admitted.
 pub fn in_window(expected: u32, seq: u32) -> bool
     ensures { λ r. ⌜ r ≡ inWindow expected seq ⌝ }
 {
     let past = wrapping_sub_u32(seq, expected);
-    if 65535 <= past {
+    if WINDOW <= past {
         return false;
     }
     true

@@ -7,6 +7,7 @@ use crate::checksum::add_bytes;
 use crate::checksum::is_one_family;
 use crate::checksum::pseudo_sum;
 use crate::header::ACK;
+use crate::header::LONGEST_SEGMENT;
 use crate::header::SYN;
 use crate::options::is_cookie_length;
 use crate::sequence::next_after;
@@ -18,6 +19,9 @@ ghost use lib.ListN.{length, take, drop, replicate};
 ghost use Rattle.segment.specs.Checksum.{onesSum, complement, oneFamily, pseudoHeader};
 ghost use Rattle.segment.specs.Write.{padding, optionBytes, headerBytes, optionsFor, lengthFor, optionAllowed, canWrite, written, synAckBytes, openingBytes};
 ghost use Rattle.lists.specs.Bytes.{overwrite};
+
+// The most bytes of options and payload.
+const MOST_BODY: usize = LONGEST_SEGMENT - 20;
 
 // The longest SYN-ACK and the longest opening, in bytes.
 pub const LONGEST_SYN_ACK: usize = 36;
@@ -93,7 +97,7 @@ fn put_options(out: &mut [u8], mss: u16, fast: bool, cookie: &[u8]) -> usize
     pad(out, c)
 }
 
-// Options and payload, from byte 20 on. The data copier is lent the output after the header. Answers the length of the options.
+// Options and payload, from byte 20 on. The data copier is lent the output after the header. Returns the length of the options.
 fn put_body(out: &mut [u8], f: Outgoing, cookie: &[u8], payload: &[u8]) -> usize
     requires { ⌜ (length (optionsFor f (now cookie)) ≤ 40) × (20 + length (optionsFor f (now cookie)) + length (now payload) ≤ length (now out)) ⌝ }
     ensures { λ r. ⌜ r ≡ length (optionsFor f (now (cookie .entry))) ⌝ }
@@ -183,7 +187,7 @@ fn writable_length(
     if m == 0 {
         return 0;
     }
-    if 1500 - m < payload.len() {
+    if MOST_BODY - m < payload.len() {
         return 0;
     }
     let n = 20 + m + payload.len();

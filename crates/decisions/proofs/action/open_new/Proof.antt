@@ -8,8 +8,8 @@ use Rattle.decisions.proofs.action.open_new.Tie as tie
 segment-options-requires : tie.Need-segment-options-requires
 segment-options-requires c κs = search needs
 
-cookies-run-requires : tie.Need-cookies-run-requires
-cookies-run-requires c κs = search needs
+cookies-enabled-requires : tie.Need-cookies-enabled-requires
+cookies-enabled-requires c κs = search needs
 
 option-area-requires : tie.Need-option-area-requires
 option-area-requires c κs = search needs
@@ -27,20 +27,20 @@ new-slot-requires : tie.Need-new-slot-requires
 new-slot-requires c κs = search needs
 
 returns : tie.Need-returns
-returns c = opens-early _ _ _ _ _ _ (c .before .before .before .before .before .before .check-option .result) (c .before .before .before .before .before .before .before .before .before .segment-options .result) _ _ (c .before .before .before .before .before .before .before .before .before .segment-options .ensures) (c .before .before .before .before .before .before .before .option-area .ensures) (c .before .before .before .before .before .before .before .before .cookies-run .ensures) (c .before .before .before .before .before .before .check-option .ensures) _ _ (c .before .before .before .before .if1 .taken) (rw (c .before .before .payload .ensures) at (c .before .accept .ensures)) (c .new-slot .ensures)
+returns c = opens-early _ _ _ _ _ _ (c .before .before .before .before .before .before .check-option .result) (c .before .before .before .before .before .before .before .before .before .segment-options .result) _ _ (c .before .before .before .before .before .before .before .before .before .segment-options .ensures) (c .before .before .before .before .before .before .before .option-area .ensures) (c .before .before .before .before .before .before .before .before .cookies-enabled .ensures) (c .before .before .before .before .before .before .check-option .ensures) _ _ (c .before .before .before .before .if1 .taken) (rw (c .before .before .payload .ensures) at (c .before .accept .ensures)) (c .new-slot .ensures)
 
 new-slot-requires-2 : tie.Need-new-slot-requires-2
 new-slot-requires-2 c κs = search needs
 
 returns-2 : tie.Need-returns-2
-returns-2 c = opens-regular _ _ _ _ _ _ (c .before .before .before .check-option .result) (c .before .before .before .before .before .before .segment-options .result) _ _ (c .before .before .before .before .before .before .segment-options .ensures) (c .before .before .before .before .option-area .ensures) (c .before .before .before .before .before .cookies-run .ensures) (c .before .before .before .check-option .ensures) _ (c .before .if1 .left) (c .new-slot2 .ensures)
+returns-2 c = opens-regular _ _ _ _ _ _ (c .before .before .before .check-option .result) (c .before .before .before .before .before .before .segment-options .result) _ _ (c .before .before .before .before .before .before .segment-options .ensures) (c .before .before .before .before .option-area .ensures) (c .before .before .before .before .before .cookies-enabled .ensures) (c .before .before .before .check-option .ensures) _ (c .before .if1 .left) (c .new-slot2 .ensures)
 
 pub open-new-spec : {M : Type 1} → statement M
 open-new-spec =
     tie.close
     (tie.spec
     segment-options-requires
-    cookies-run-requires
+    cookies-enabled-requires
     option-area-requires
     check-option-requires
     payload-requires
