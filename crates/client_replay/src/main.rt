@@ -1,93 +1,58 @@
-// Plays a script of the calls on a client's memory from standard input and prints a line for each: what the call answered. A line is answered as soon as it is
+// Plays a script of the calls on a client's memory from standard input and prints a line for each: what the call came to. A line is answered as soon as it is
 // complete, so that the program can be driven through a pipe.
-mod line;
-mod play;
-
-use crate::play::play_line;
 use client::calls::never_started;
 use client::state::Memory;
-use libc::STDIN_FILENO;
+use client_player::play::play_line;
+use libc::STDOUT_FILENO;
 use text::line::LONGEST;
-use text::line::gather;
 use text::part::first;
+use text::reader::INPUT;
+use text::reader::Reader;
+use text::reader::new_reader;
+use text::reader::read_on;
+ghost use Prim.Native.Nat.{_-_, _≤_};
 
-// The memory, and how long the line is that has begun.
+// The buffer for an outcome's line: its longest word is an opening of 1,504 bytes, at two digits each.
+const ANSWER: usize = 4096;
+
 struct Session {
+    reader: Reader,
     memory: Memory,
-    len: usize,
 }
 
-// Plays the lines that end in `input`, and keeps the start of the next one in `line`.
-fn take_input(s: Session, line: &mut [u8], input: &[u8]) -> Session {
-    let mut memory = s.memory;
-    let mut len = s.len;
-    let mut from = 0;
-    while from < input.len() {
-        let g = gather(line, len, input, from);
-        from = g.next;
-        len = g.len;
-        if g.complete {
-            let next = play_line(memory, first(line, len), len);
-            memory = next;
-            len = 0;
-        }
-    }
-    Session { memory, len }
+// Plays a line, and prints what it came to.
+fn print_line(m: Memory, line: &[u8], len: usize) -> Memory {
+    let mut text = [0u8; ANSWER];
+    let p = play_line(m, line, len, &mut text);
+    let n = p.len;
+    io::write_all(STDOUT_FILENO, first(&text, n));
+    p.memory
 }
 
-// What has come of one read, and whether the input goes on.
-struct Input {
-    session: Session,
-    more: bool,
-}
-
-// A read that fails counts as the end of the input.
-fn read_once(s: Session, line: &mut [u8]) -> Input {
-    let mut input = io::large_buffer();
-    let got = libc::read(STDIN_FILENO, &mut input);
-    let n = io::count(got, &input);
-    if n == 0 {
-        return Input {
-            session: s,
-            more: false,
-        };
-    }
-    Input {
-        session: take_input(s, line, &input[..n]),
-        more: true,
-    }
-}
-
-// A proved loop has to end, and nothing says that the input does: the reads are counted down from a number that no script uses up.
-fn play_all(start: Session, line: &mut [u8]) -> Session {
-    let mut session = start;
-    let mut reads = u64::MAX;
-    while reads > 0 {
-        let t = read_once(session, line);
-        session = t.session;
-        if !t.more {
-            return session;
-        }
-        reads -= 1;
-    }
-    session
-}
-
-// A last line without a line feed counts too.
-fn play_last(s: Session, line: &[u8]) {
+// Takes the next part of the input, and plays the line where that completes one.
+fn play_part(s: Session, input: &mut [u8; INPUT], line: &mut [u8; LONGEST]) -> Session
+    ensures { λ q. ⌜ q .reader .left ≤ s .reader .left - 1 ⌝ }
+{
+    let reader = read_on(s.reader, input, line);
     let memory = s.memory;
-    let len = s.len;
-    play_line(memory, first(line, len), len);
+    if !reader.complete {
+        return Session { reader, memory };
+    }
+    let len = reader.len;
+    Session {
+        reader,
+        memory: print_line(memory, first(line, len), len),
+    }
 }
 
 fn main() {
+    let mut input = [0u8; INPUT];
     let mut line = [0u8; LONGEST];
-    let session = play_all(
-        Session {
-            memory: never_started(),
-            len: 0,
-        },
-        &mut line,
-    );
-    play_last(session, &line);
+    let mut s = Session {
+        reader: new_reader(),
+        memory: never_started(),
+    };
+    while s.reader.left > 0 {
+        s = play_part(s, &mut input, &mut line);
+    }
 }

@@ -1,93 +1,58 @@
-// Plays a script of a listener's calls from standard input and prints a line for each: what the call answered. A line is answered as soon as it is
+// Plays a script of a listener's calls from standard input and prints a line for each: what the call came to. A line is answered as soon as it is
 // complete, so that the program can be driven through a pipe.
-mod line;
-mod play;
-
-use crate::play::play_line;
-use libc::STDIN_FILENO;
+use libc::STDOUT_FILENO;
 use listener::calls::never_started;
+use player::play::play_line;
 use protocol::state::Listener;
 use text::line::LONGEST;
-use text::line::gather;
 use text::part::first;
+use text::reader::INPUT;
+use text::reader::Reader;
+use text::reader::new_reader;
+use text::reader::read_on;
+ghost use Prim.Native.Nat.{_-_, _≤_};
 
-// The listener, and how long the line is that has begun.
+// The buffer for an outcome's line: its longest words are a part of 1,460 bytes and an output of 36, at two digits each.
+const ANSWER: usize = 4096;
+
 struct Session {
+    reader: Reader,
     listener: Listener,
-    len: usize,
 }
 
-// Plays the lines that end in `input`, and keeps the start of the next one in `line`.
-fn take_input(s: Session, line: &mut [u8], input: &[u8]) -> Session {
-    let mut listener = s.listener;
-    let mut len = s.len;
-    let mut from = 0;
-    while from < input.len() {
-        let g = gather(line, len, input, from);
-        from = g.next;
-        len = g.len;
-        if g.complete {
-            let next = play_line(listener, first(line, len), len);
-            listener = next;
-            len = 0;
-        }
-    }
-    Session { listener, len }
+// Plays a line, and prints what it came to.
+fn print_line(l: Listener, line: &[u8], len: usize) -> Listener {
+    let mut text = [0u8; ANSWER];
+    let p = play_line(l, line, len, &mut text);
+    let n = p.len;
+    io::write_all(STDOUT_FILENO, first(&text, n));
+    p.listener
 }
 
-// What has come of one read, and whether the input goes on.
-struct Input {
-    session: Session,
-    more: bool,
-}
-
-// A read that fails counts as the end of the input.
-fn read_once(s: Session, line: &mut [u8]) -> Input {
-    let mut input = io::large_buffer();
-    let got = libc::read(STDIN_FILENO, &mut input);
-    let n = io::count(got, &input);
-    if n == 0 {
-        return Input {
-            session: s,
-            more: false,
-        };
-    }
-    Input {
-        session: take_input(s, line, &input[..n]),
-        more: true,
-    }
-}
-
-// A proved loop has to end, and nothing says that the input does: the reads are counted down from a number that no script uses up.
-fn play_all(start: Session, line: &mut [u8]) -> Session {
-    let mut session = start;
-    let mut reads = u64::MAX;
-    while reads > 0 {
-        let t = read_once(session, line);
-        session = t.session;
-        if !t.more {
-            return session;
-        }
-        reads -= 1;
-    }
-    session
-}
-
-// A last line without a line feed counts too.
-fn play_last(s: Session, line: &[u8]) {
+// Takes the next part of the input, and plays the line where that completes one.
+fn play_part(s: Session, input: &mut [u8; INPUT], line: &mut [u8; LONGEST]) -> Session
+    ensures { λ q. ⌜ q .reader .left ≤ s .reader .left - 1 ⌝ }
+{
+    let reader = read_on(s.reader, input, line);
     let listener = s.listener;
-    let len = s.len;
-    play_line(listener, first(line, len), len);
+    if !reader.complete {
+        return Session { reader, listener };
+    }
+    let len = reader.len;
+    Session {
+        reader,
+        listener: print_line(listener, first(line, len), len),
+    }
 }
 
 fn main() {
+    let mut input = [0u8; INPUT];
     let mut line = [0u8; LONGEST];
-    let session = play_all(
-        Session {
-            listener: never_started(),
-            len: 0,
-        },
-        &mut line,
-    );
-    play_last(session, &line);
+    let mut s = Session {
+        reader: new_reader(),
+        listener: never_started(),
+    };
+    while s.reader.left > 0 {
+        s = play_part(s, &mut input, &mut line);
+    }
 }

@@ -61,10 +61,6 @@ unfolding digitsOf valueFrom
 value-digits zero n h = omega arith
 value-digits (suc f) n h = value-step f n (value-digits f (n / 10) (omega (arith, pow-suc 10 f))) _ refl
 
-pub value-decimal : (n : ℕ) → n < 18446744073709551616 → valueFrom 0 (decimal n) ≡ n
-unfolding decimal
-value-decimal n h = value-digits 20 n (omega arith)
-
 -- ---- hexadecimal digits
 
 pub hex-snoc : (s : List ℕ) (b : ℕ) → hexOf (s ++ (b ∷ [])) ≡ hexOf s ++ (hexDigit (b / 16) ∷ hexDigit (b % 16) ∷ [])

@@ -69,7 +69,7 @@ pub number-past : numberIn (decimal 18446744073709551616) 18446744073709551615 �
 unfolding numberIn valueFrom decimal digitsOf
 number-past = refl
 
--- `-`; `0aF3`, and where one byte has room; `abc`; an empty word; `0g`
+-- `-`; `0aF3`, and into a buffer of one byte; `abc`; an empty word; `0g`
 pub bytes-none : bytesRead (45 ∷ []) 0 ≡ bytes.Count 0
 unfolding bytesRead isReadable bytesOf sameBytes
 bytes-none = refl

@@ -23,7 +23,7 @@ half [] = refl
 half (a ∷ []) = refl
 half (a ∷ b ∷ s) = omega (arith, half s)
 
--- the byte at a place is said by the two digits there
+-- the byte at a place, by the two digits there
 pub pair-at : (s : List ℕ) (i : ℕ) → i < length (pairBytes s) → getD (pairBytes s) i 0 ≡ nibble (getD s (2 * i) 0) * 16 + nibble (getD s (2 * i + 1) 0)
 unfolding pairBytes
 pair-at [] i h = absurd (not-suc-le-zero h)
@@ -74,7 +74,7 @@ module _ (s : List ℕ) where
   hex-all h k e = rw (lt-ltb 0 (length s) (omega arith), eq-eqb (length s % 2) 0 k, e)
 
 module _ (s : List ℕ) (out-len : ℕ) where
-  -- what is answered, and the bytes that are read
+  -- what is returned, and the bytes that are read
   abbrev pub ReadAs : ByteString → List ℕ → Type 0
   ReadAs r bytes = (r ≡ bytesRead s out-len) × (bytes ≡ bytesIn s out-len)
 

@@ -43,7 +43,7 @@ pub place-place : (at m n out-len : ℕ) → placeAfter (placeAfter at m out-len
 unfolding placeAfter
 place-place at m n out-len = omega arith
 
--- what has room of two texts
+-- what fits of two texts
 take-two : (s w : List ℕ) (m : ℕ) (t : Bool) → leb (length s) m ≡ t
     → take (min (length s) m) s ++ take (min (length w) (m - min (length s) m)) w ≡ take (min (length s + length w) m) (s ++ w)
 take-two s w m true e =
@@ -58,7 +58,7 @@ take-two s w m false e =
     let z : min (length w) (m - m) ≡ 0 = omega arith in
     rw (b, a, z, append-nil, take-append-le m s w (omega arith))
 
--- the room that the first of two texts leaves
+-- what the first of two texts leaves
 left-after : (at m n out-len : ℕ) → min n (out-len - at - min m (out-len - at)) ≡ fitting (at + min m (out-len - at)) n out-len
 left-after at m n out-len = omega arith
 
@@ -88,7 +88,7 @@ laid-laid-by at s w out false e =
 pub laid-laid : (at : ℕ) (s w out : List ℕ) → laid (placeAfter at (length s) (length out)) w (laid at s out) ≡ laid at (s ++ w) out
 laid-laid at s w out = laid-laid-by at s w out _ refl
 
--- the same of a place and a buffer that a put answered: `s` was put into `o` at a place, which left the place n and the buffer out
+-- the same of a place and a buffer that a put left: `s` was put into `o` at a place, which left the place n and the buffer out
 abbrev pub Put : List ℕ → ℕ → List ℕ → ℕ → List ℕ → Type 0
 Put o at s n out = (n ≡ placeAfter at (length s) (length o)) × (out ≡ laid at s o)
 
@@ -107,7 +107,7 @@ put-then o at s w p q r t = more o at s w _ _ _ _ (p, q) (r, t)
 pub same-put : (o : List ℕ) (at : ℕ) (s w : List ℕ) (n : ℕ) (out : List ℕ) → s ≡ w → Put o at s n out → Put o at w n out
 same-put o at s w n out e p = subst (λ (x : List ℕ). Put o at x n out) e p
 
--- ---- one put: of nothing; past the end; of a text longer than the room, which is lent, and whose front is copied; of a text that fits
+-- ---- one put: of nothing; past the end; of a text longer than what is left, which is lent, and whose front is copied; of a text that fits
 
 pub put-none : (out : List ℕ) (at : ℕ) → Put out at [] at out
 unfolding placeAfter

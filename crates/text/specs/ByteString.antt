@@ -34,15 +34,15 @@ pairBytes [] = []
 pairBytes (a ∷ []) = []
 pairBytes (a ∷ b ∷ s) = (nibble a * 16 + nibble b) ∷ pairBytes s
 
--- the bytes that a byte string says
+-- the bytes that a byte string stands for
 unfoldable pub bytesOf : List ℕ → List ℕ
 bytesOf s = cond (isDash s) [] (pairBytes s)
 
--- whether a word is a byte string whose bytes have room
+-- whether a word is a byte string whose bytes fit
 unfoldable pub isReadable : List ℕ → ℕ → Bool
 isReadable s out-len = (isDash s || isHex s) && leb (length (bytesOf s)) out-len
 
--- the bytes that are read to a buffer with so much room; none where the word is bad
+-- the bytes that are read to a buffer of this length; none where the word is bad
 unfoldable pub bytesIn : List ℕ → ℕ → List ℕ
 bytesIn s out-len = cond (isReadable s out-len) (bytesOf s) []
 

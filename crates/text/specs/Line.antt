@@ -35,3 +35,8 @@ gathered n from input =
     cond (ltb (feedAt (drop from input)) (length (drop from input)))
     (record { next = from + feedAt (drop from input) + 1; len = lengthWith n (feedAt (drop from input)); complete = true })
     (record { next = length input; len = lengthWith n (feedAt (drop from input)); complete = false })
+
+-- the line feed of a line that is complete
+abbrev pub feedOf : Bool → List ℕ
+feedOf true = 10 ∷ []
+feedOf false = []

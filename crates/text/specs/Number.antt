@@ -29,7 +29,7 @@ unfoldable pub valueFrom : ℕ → List ℕ → ℕ
 valueFrom n [] = n
 valueFrom n (b ∷ s) = valueFrom (n * 10 + (b - 48)) s
 
--- the number that a word says, if it is at most `most`
+-- the number that a word is, if it is at most `most`
 unfoldable pub numberIn : List ℕ → ℕ → Number
 numberIn s most = cond (isNumber s && leb (valueFrom 0 s) most) (Value (valueFrom 0 s)) Bad
 

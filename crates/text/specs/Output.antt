@@ -1,4 +1,4 @@
--- The replay format (docs/REPLAY.md), "Lines out": the lent output is filled with the byte A5, and REST says whether the bytes past the written ones still have it.
+-- The replay format (docs/REPLAY.md), "Lines out": the lent output is filled with the byte A5, and REST tells whether the bytes past the written ones still have it.
 -- Assumes nothing.
 use Prim.Native.Nat.{ℕ}
 use mathlib.Core.List.{List}

@@ -6,7 +6,7 @@ use mathlib.Core.List.{List, [], _∷_, _++_}
 use lib.ListN.{length}
 use lib.Seq.{paste}
 
--- how many of n bytes have room from a place on, in a buffer of so many
+-- how many of n bytes fit from a place on, in a buffer of so many
 abbrev pub fitting : ℕ → ℕ → ℕ → ℕ
 fitting at n out-len = min n (out-len - at)
 
@@ -14,7 +14,7 @@ fitting at n out-len = min n (out-len - at)
 unfoldable pub placeAfter : ℕ → ℕ → ℕ → ℕ
 placeAfter at n out-len = at + fitting at n out-len
 
--- a buffer with bytes put at a place, as many as there is room for; all others are as they were
+-- a buffer with bytes put at a place, as many as fit; all others are as they were
 unfoldable pub laid : ℕ → List ℕ → List ℕ → List ℕ
 laid at s out = paste out at s (fitting at (length s) (length out))
 

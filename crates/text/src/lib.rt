@@ -1,11 +1,12 @@
-// The text of the replay programs: a line's words, numbers and byte strings are read, and an answer's line is put into a buffer.
+// The text of the replay programs: a line's words, numbers and byte strings are read, and an outcome's line is put into a buffer.
 //
-// No public function has a precondition: a word that is no number or no byte string is answered `Bad`, and a buffer takes as many bytes as it has room for.
+// No public function has a precondition: a word that is no number or no byte string is `Bad`, and a buffer takes as many bytes as fit.
+pub mod argument;
 pub mod bytestring;
 pub mod line;
-pub mod name;
 pub mod number;
 pub mod output;
 pub mod part;
 pub mod put;
+pub mod reader;
 pub mod word;

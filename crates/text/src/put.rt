@@ -1,5 +1,5 @@
-// Text put into a buffer, piece after piece. Each function takes the place where its text begins and answers the place after it; a buffer that is too short
-// takes as much as it has room for.
+// Text put into a buffer, piece after piece. Each function takes the place where its text begins and returns the place after it; a buffer that is too short
+// takes as much as fits.
 ghost use mathlib.Core.Path.{_≡_};
 ghost use mathlib.Core.List.{[], _∷_};
 ghost use Prim.Native.Nat.{_/_, _%_, _<_};

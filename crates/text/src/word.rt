@@ -2,6 +2,7 @@
 ghost use mathlib.Core.Path.{_≡_};
 ghost use Rattle.lists.specs.Bytes.{sameBytes};
 ghost use Rattle.text.specs.Word.{spaces, wordAt};
+ghost use Rattle.text.specs.Argument.{isCall};
 
 // How many spaces a line has: one less than its words.
 pub fn space_count(line: &[u8]) -> usize
@@ -52,4 +53,14 @@ pub fn is_word(word: &[u8], name: &[u8]) -> bool
         i += 1;
     }
     true
+}
+
+// Whether a line is this call, by its first word and its spaces.
+pub fn is_call(line: &[u8], name: &[u8], spaces: usize) -> bool
+    ensures { λ r. ⌜ r ≡ isCall (now (name .entry)) spaces (now (line .entry)) ⌝ }
+{
+    if is_word(word_at(line, 0), name) {
+        return space_count(line) == spaces;
+    }
+    false
 }

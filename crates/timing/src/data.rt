@@ -49,7 +49,7 @@ pub(crate) fn first(s: &[u8; 1520], n: usize) -> &[u8] {
     text::part::first(s, n)
 }
 
-// Writes an opening of the peer's with a Fast Open option: a cookie, or none to ask for one. Returns its length.
+// Writes an opening of the peer's with a Fast Open option: a cookie, or none to ask for one. Answers its length.
 pub(crate) fn put_opening(
     out: &mut [u8; 1520],
     peer: &[u8; 4],

@@ -1,27 +1,20 @@
 // Runs the published AES-128 vectors through the compiled cipher and prints a line for each: FIPS 197 appendix A.1, the 44 words
 // of the key schedule, B and C.1, and SP 800-38A F.1.1. The file `stdout` has the values as published.
 use libc::STDOUT_FILENO;
+use text::part::first;
+use text::put::put;
+use text::put::put_bytes;
 
 fn print(text: &[u8]) {
     io::write_all(STDOUT_FILENO, text);
 }
 
 // The bytes in hexadecimal.
-fn print_bytes(bytes: &[u8]) {
-    let mut i = 0;
-    while i < bytes.len() {
-        io::print_hex(STDOUT_FILENO, wide(bytes[i]), 2);
-        i += 1;
-    }
-}
-
 fn print_line(bytes: &[u8]) {
-    print_bytes(bytes);
-    print(b"\n");
-}
-
-fn wide(b: u8) -> u64 {
-    b as u64
+    let mut out = [0u8; 33];
+    let n = put_bytes(&mut out, 0, bytes);
+    let end = put(&mut out, n, b"\n");
+    print(first(&out, end));
 }
 
 // The eight bytes of a half of a block, the highest first, as the documents print it.

@@ -1,4 +1,4 @@
--- `text::line::gather` meets its contract: what was found is what the definition says.
+-- `text::line::gather` meets its contract: what was found is the definition's.
 -- Assumes nothing.
 use native.Mathlib.Omega.{arith}
 use Rattle.text.proofs.Lines.{part-is, cut-off, ended, in-input}

@@ -14,36 +14,6 @@ Inv-loop peer count opening completion out₀ l₀ digest₀ turn₀ out l diges
 abbrev μ-loop : tie.MeasureT-loop
 μ-loop peer count opening completion out₀ l₀ digest₀ turn₀ out l digest turn = count - turn
 
-loop-holds : tie.Need-loop-holds Inv-loop μ-loop
-loop-holds c = search needs
-
-slice-aggregate-segment : tie.Need-slice-aggregate-segment Inv-loop μ-loop
-slice-aggregate-segment c = search needs
-
-segment-requires : tie.Need-segment-requires Inv-loop μ-loop
-segment-requires c κs = search needs
-
-add-requires : tie.Need-add-requires Inv-loop μ-loop
-add-requires c κs = search needs
-
-iss-at-requires : tie.Need-iss-at-requires Inv-loop μ-loop
-iss-at-requires c κs = search needs
-
-slice-aggregate-segment-2 : tie.Need-slice-aggregate-segment-2 Inv-loop μ-loop
-slice-aggregate-segment-2 c = search needs
-
-segment-requires-2 : tie.Need-segment-requires-2 Inv-loop μ-loop
-segment-requires-2 c κs = search needs
-
-add-requires-2 : tie.Need-add-requires-2 Inv-loop μ-loop
-add-requires-2 c κs = search needs
-
-close-requires : tie.Need-close-requires Inv-loop μ-loop
-close-requires c κs = search needs
-
-add-requires-3 : tie.Need-add-requires-3 Inv-loop μ-loop
-add-requires-3 c κs = search needs
-
 add-turn : tie.Need-add-turn Inv-loop μ-loop
 add-turn c = omega (arith, c .before .before .before .before .before .before .before .before .before .before .before .before .before .before .before .before .before .before .loop-test .taken, c .before .before .before .before .before .before .before .before .before .before .before .before .before .before .before .before .before .before .before .before .before .before .fits .count)
 
@@ -53,26 +23,9 @@ loop-less c = omega (arith, c .before .before .before .before .before .before .b
 loop-again : tie.Need-loop-again Inv-loop μ-loop
 loop-again c = (omega (arith, c .before .before .before .before .before .before .before .before .before .before .before .before .before .before .before .before .before .before .loop-test .taken), search needs)
 
-returns : tie.Need-returns Inv-loop μ-loop
-returns c = search needs
-
 pub complete-and-close-spec : {M : Type 1} → statement M
 complete-and-close-spec =
     tie.close
-    (tie.spec
-    Inv-loop
-    μ-loop
-    loop-holds
-    slice-aggregate-segment
-    segment-requires
-    add-requires
-    iss-at-requires
-    slice-aggregate-segment-2
-    segment-requires-2
-    add-requires-2
-    close-requires
-    add-requires-3
-    add-turn
-    loop-less
-    loop-again
-    returns)
+    (tie.spec Inv-loop μ-loop (λ c. search needs) (λ c. search needs) (λ c κs. search needs) (λ c κs. search needs) (λ c κs. search needs)
+    (λ c. search needs) (λ c κs. search needs) (λ c κs. search needs) (λ c κs. search needs) (λ c κs. search needs) add-turn loop-less loop-again
+    (λ c. search needs))

@@ -1,0 +1,13 @@
+-- `client_player::play::started` meets its contract.
+-- Assumes nothing.
+use borrow.Author.Needs.{needs}
+use Rattle.client_player.proofs.play.started.Statement.{statement}
+use Rattle.client_player.proofs.play.started.Tie as tie
+
+returns : tie.Need-returns
+returns c = rw (c .event-of .ensures)
+
+pub started-spec : {M : Type 1} → statement M
+started-spec =
+    tie.close
+    (tie.spec (λ c κs. search needs) returns)

@@ -1,2 +1,0 @@
--- What `client_replay` prints.
-pub mod Line

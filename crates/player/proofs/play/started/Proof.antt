@@ -1,0 +1,15 @@
+-- `player::play::started` meets its contract.
+-- Assumes nothing.
+use borrow.Author.Needs.{needs}
+use Rattle.player.proofs.play.started.Statement.{statement}
+use Rattle.player.proofs.play.started.Tie as tie
+
+returns : tie.Need-returns
+returns c = rw (c .event-of .ensures)
+
+pub started-spec : {M : Type 1} → statement M
+started-spec =
+    tie.close
+    (tie.spec
+    (λ c κs. search needs)
+    returns)

@@ -1,0 +1,97 @@
+-- The replay format (docs/REPLAY.md), "Lines in", of `replay`: which request a line is.
+-- Assumes nothing.
+use Prim.Native.Nat.{ℕ}
+use mathlib.Core.Bool.{Bool, true, false, cond}
+use mathlib.Core.List.{List, [], _∷_}
+use mathlib.Core.Option.{Option, none, some}
+use Rattle.lists.specs.Bytes.{sameBytes}
+use Rattle.protocol.specs.declared.state.Settings.{Settings}
+use Rattle.protocol.specs.Call.{Call, segment, settings, key, abandon, resend, close}
+use Rattle.protocol.specs.Refusals.{releaseOf}
+use Rattle.text.specs.Word.{wordAt}
+use Rattle.text.specs.Argument.{timeAt, portAt, numberAt, outAt, bytesAt, _⊛_, isCall, firstCase}
+use Rattle.player.specs.declared.read.Switch.{Switch}
+use Rattle.player.specs.declared.read.Switch.the-variants.{Value as On, Bad as OnBad}
+
+-- A start with own address, port and key, or a call on the listener.
+pub data Request : Type 0 where
+  start : List ℕ → ℕ → List ℕ → Request
+  call : Call → Request
+
+abbrev pub isOn : Switch → Option Bool
+isOn (On b) = some b
+isOn OnBad = none
+
+-- on|off
+unfoldable pub switchIn : List ℕ → Switch
+switchIn w = cond (sameBytes w (111 ∷ 110 ∷ [])) (On true) (cond (sameBytes w (111 ∷ 102 ∷ 102 ∷ [])) (On false) OnBad)
+
+abbrev pub switchAt : ℕ → List ℕ → Option Bool
+switchAt i s = isOn (switchIn (wordAt i s))
+
+-- a request of its words, in their order
+
+abbrev pub starting : List ℕ → ℕ → List ℕ → Request
+starting own port k = start own port k
+
+abbrev pub settingsOf : Bool → ℕ → ℕ → ℕ → ℕ → Settings
+settingsOf on limit early-room hold mss = record { on = on; limit = limit; «early_room» = early-room; hold = hold; mss = mss }
+
+abbrev pub setting : ℕ → Bool → ℕ → ℕ → ℕ → ℕ → Request
+setting t on limit early-room hold mss = call (settings t (settingsOf on limit early-room hold mss))
+
+abbrev pub keying : ℕ → List ℕ → Request
+keying t k = call (key t k)
+
+abbrev pub taking : ℕ → List ℕ → ℕ → ℕ → List ℕ → Request
+taking t src iss out seg = call (segment t src seg iss out)
+
+abbrev pub releasing : Bool → ℕ → List ℕ → ℕ → Request
+releasing established t a p = call (releaseOf established t a p)
+
+abbrev pub resending : ℕ → List ℕ → ℕ → ℕ → Request
+resending t a p out = call (resend t a p out)
+
+-- Each line, if its words are right.
+
+-- start ADDRESS PORT KEY
+abbrev pub startIn : List ℕ → Option Request
+startIn s = some starting ⊛ bytesAt 1 s ⊛ portAt 2 s ⊛ bytesAt 3 s
+
+-- settings TIME on|off LIMIT ROOM HOLD MSS
+abbrev pub settingsIn : List ℕ → Option Request
+settingsIn s = some setting ⊛ timeAt 1 s ⊛ switchAt 2 s ⊛ numberAt 3 s ⊛ numberAt 4 s ⊛ numberAt 5 s ⊛ numberAt 6 s
+
+-- key TIME KEY
+abbrev pub keyIn : List ℕ → Option Request
+keyIn s = some keying ⊛ timeAt 1 s ⊛ bytesAt 2 s
+
+-- segment TIME ADDRESS OURS OUT SEGMENT
+abbrev pub segmentIn : List ℕ → Option Request
+segmentIn s = some taking ⊛ timeAt 1 s ⊛ bytesAt 2 s ⊛ numberAt 3 s ⊛ outAt 4 s ⊛ bytesAt 5 s
+
+-- abandon TIME ADDRESS PORT, and close likewise
+abbrev pub releaseIn : Bool → List ℕ → Option Request
+releaseIn established s = some (releasing established) ⊛ timeAt 1 s ⊛ bytesAt 2 s ⊛ portAt 3 s
+
+-- resend TIME ADDRESS PORT OUT
+abbrev pub resendIn : List ℕ → Option Request
+resendIn s = some resending ⊛ timeAt 1 s ⊛ bytesAt 2 s ⊛ portAt 3 s ⊛ outAt 4 s
+
+-- A line is one of these by its first word, and by how many spaces it has.
+
+-- `segment`, `start`, `settings`, `key`, `abandon`, `close`, `resend`
+abbrev pub cases : List ℕ → List (Bool × Option Request)
+cases s =
+    (isCall (115 ∷ 101 ∷ 103 ∷ 109 ∷ 101 ∷ 110 ∷ 116 ∷ []) 5 s, segmentIn s)
+    ∷ (isCall (115 ∷ 116 ∷ 97 ∷ 114 ∷ 116 ∷ []) 3 s, startIn s)
+    ∷ (isCall (115 ∷ 101 ∷ 116 ∷ 116 ∷ 105 ∷ 110 ∷ 103 ∷ 115 ∷ []) 6 s, settingsIn s)
+    ∷ (isCall (107 ∷ 101 ∷ 121 ∷ []) 2 s, keyIn s)
+    ∷ (isCall (97 ∷ 98 ∷ 97 ∷ 110 ∷ 100 ∷ 111 ∷ 110 ∷ []) 3 s, releaseIn false s)
+    ∷ (isCall (99 ∷ 108 ∷ 111 ∷ 115 ∷ 101 ∷ []) 3 s, releaseIn true s)
+    ∷ (isCall (114 ∷ 101 ∷ 115 ∷ 101 ∷ 110 ∷ 100 ∷ []) 4 s, resendIn s)
+    ∷ []
+
+-- the request of a line that is not silent and not too long; none where it is bad
+unfoldable pub requestIn : List ℕ → Option Request
+requestIn s = firstCase (cases s)

@@ -1,2 +1,0 @@
--- What `replay` prints.
-pub mod Line

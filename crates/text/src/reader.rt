@@ -1,0 +1,101 @@
+// Standard input, line by line, as it comes: a line is complete as soon as its line feed was read, and more is read only where all that was read is used up.
+use crate::line::gather;
+use crate::part::first;
+use libc::STDIN_FILENO;
+ghost use mathlib.Core.Path.{_≡_};
+ghost use Prim.Native.Nat.{_-_};
+ghost use lib.ListN.{drop};
+ghost use Rattle.io.specs.Counts.{Counts};
+ghost use Rattle.text.specs.Line.{beforeFeed};
+ghost use Rattle.text.specs.Put.{laid};
+ghost use Rattle.text.specs.Reader.{fresh, lengthBefore, partTaken, ReadOn};
+
+// How many bytes one read may bring.
+pub const INPUT: usize = 65536;
+
+// Where the next part of the input begins and where what was read ends; how long the line is and whether it is complete; how many parts may still be taken.
+pub struct Reader {
+    pub next: usize,
+    pub end: usize,
+    pub len: usize,
+    pub complete: bool,
+    pub left: u64,
+}
+
+// Before the first read. A proved loop has to end, and the input need not: the parts are counted down from a number that no script uses up.
+pub fn new_reader() -> Reader
+    ensures { λ q. ⌜ q ≡ fresh ⌝ }
+{
+    Reader {
+        next: 0,
+        end: 0,
+        len: 0,
+        complete: false,
+        left: u64::MAX,
+    }
+}
+
+// How long the line is that goes on: after a complete one a new one begins.
+fn length_before(r: Reader) -> usize
+    ensures { λ n. ⌜ n ≡ lengthBefore r ⌝ }
+{
+    if r.complete {
+        return 0;
+    }
+    r.len
+}
+
+fn one_less(n: u64) -> u64
+    ensures { λ r. ⌜ r ≡ n - 1 ⌝ }
+{
+    if n == 0 {
+        return 0;
+    }
+    n - 1
+}
+
+// Adds what was read, from a place on, to the line: up to its line feed, or to the end of what was read.
+fn take_part(r: Reader, line: &mut [u8], read: &[u8], from: usize) -> Reader
+    ensures { λ q. ⌜ q ≡ partTaken r from (now (read .entry)) ⌝ }
+    ensures { λ _. ⌜ now (line .exit) ≡ laid (lengthBefore r) (beforeFeed (drop from (now (read .entry)))) (now (line .entry)) ⌝ }
+{
+    let g = gather(line, length_before(r), read, from);
+    Reader {
+        next: g.next,
+        end: read.len(),
+        len: g.len,
+        complete: g.complete,
+        left: one_less(r.left),
+    }
+}
+
+// One read. One that fails counts as the end of the input.
+fn read_once(input: &mut [u8]) -> usize
+    ensures { λ n. ⌜ Counts n (now (input .exit)) ⌝ }
+{
+    let got = libc::read(STDIN_FILENO, input);
+    io::count(got, input)
+}
+
+// Takes the next part of the line, after a read where none is left. At the end of the input the line counts as complete, and no parts are left.
+pub fn read_on(r: Reader, input: &mut [u8], line: &mut [u8]) -> Reader
+    ensures { λ q. ⌜ ReadOn r (now (input .entry)) (now (line .entry)) q (now (input .exit)) (now (line .exit)) ⌝ }
+{
+    let end = r.end;
+    let next = r.next;
+    let had = first(input, end);
+    if next < had.len() {
+        return take_part(r, line, had, next);
+    }
+    let n = read_once(input);
+    if n == 0 {
+        return Reader {
+            next: 0,
+            end: 0,
+            len: length_before(r),
+            complete: true,
+            left: 0,
+        };
+    }
+    take_part(r, line, first(input, n), 0)
+}
