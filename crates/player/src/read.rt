@@ -254,8 +254,6 @@ fn read_switch(word: &[u8]) -> Switch
     Switch::Bad
 }
 
-// The word at a place, read.
-
 // start ADDRESS PORT KEY
 fn read_start(line: &[u8], own: &mut [u8], key: &mut [u8]) -> Reading
     ensures { λ r. ⌜ r ≡ startReading (now (line .entry)) (length (now (own .entry))) (length (now (key .entry))) ⌝ }

@@ -9,11 +9,12 @@ use text::part::first;
 use text::reader::INPUT;
 use text::reader::Reader;
 use text::reader::new_reader;
-use text::reader::read_on;
+use text::reader::read_if_used_up;
+use text::reader::take_next;
 ghost use Prim.Native.Nat.{_-_, _≤_};
 
 // The buffer for an outcome's line: its longest words are a part of 1,460 bytes and an output of 36, at two digits each.
-const ANSWER: usize = 4096;
+const TEXT: usize = 4096;
 
 struct Session {
     reader: Reader,
@@ -22,7 +23,7 @@ struct Session {
 
 // Plays a line, and prints what it came to.
 fn print_line(l: Listener, line: &[u8], len: usize) -> Listener {
-    let mut text = [0u8; ANSWER];
+    let mut text = [0u8; TEXT];
     let p = play_line(l, line, len, &mut text);
     let n = p.len;
     io::write_all(STDOUT_FILENO, first(&text, n));
@@ -33,7 +34,9 @@ fn print_line(l: Listener, line: &[u8], len: usize) -> Listener {
 fn play_part(s: Session, input: &mut [u8; INPUT], line: &mut [u8; LONGEST]) -> Session
     ensures { λ q. ⌜ q .reader .left ≤ s .reader .left - 1 ⌝ }
 {
-    let reader = read_on(s.reader, input, line);
+    let r = s.reader;
+    let n = read_if_used_up(r, input);
+    let reader = take_next(r, n, input, line);
     let listener = s.listener;
     if !reader.complete {
         return Session { reader, listener };

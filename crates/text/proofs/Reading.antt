@@ -1,76 +1,47 @@
--- A part of the input taken: from what was read before, after one more read, or none at the input's end. Assumes nothing.
-use Prim.Native.Nat.{ℕ, _≤_, _<_}
-use mathlib.Core.Path.{_≡_, refl, ap, _∙_}
-use mathlib.Core.Bool.{Bool, true, false}
+-- A part of the input taken: from what is left, from a read, or none at the input's end; no byte is lost and none is taken twice. Assumes nothing.
+use Prim.Native.Nat.{ℕ, _-_, _≤_}
+use mathlib.Core.Path.{_≡_, _∙_}
+use mathlib.Core.Bool.{true, false}
 use mathlib.Core.List.{List, _++_}
 use native.Mathlib.Omega.{arith}
 use lib.Dec.{eqb}
-use lib.ListN.{length, take, drop, length-take}
-use lib.Seq.{length-take-le, take-nil}
-use borrow.Author.Tests.{le-ltb, lt-ltb, ne-eqb}
+use lib.ListN.{take, drop}
+use lib.Seq.{take-nil}
+use borrow.Author.Tests.{ne-eqb}
 use Rattle.text.specs.declared.reader.Reader.{Reader}
 use Rattle.text.specs.Line.{beforeFeed, feedOf}
+use Rattle.text.specs.Reader.{lengthBefore, partTaken, ended, isUsedUp, offered, nextTaken}
 use Rattle.text.specs.Put.{laid}
-use Rattle.text.proofs.Puts.{put-none}
 use Rattle.text.proofs.Lines.{parted}
-use Rattle.text.specs.Reader.{lengthBefore, partTaken, ended, isUnused, offered, readOn, ReadOn}
+use Rattle.text.proofs.Puts.{put-none}
 
-module _ (r : Reader) (input line line′ : List ℕ) where
-  -- something is left of what was read
-  pub from-before : (q : Reader) → r .next < length (take (r .end) input) → q ≡ partTaken r (r .next) (take (r .end) input)
-      → line′ ≡ laid (lengthBefore r) (beforeFeed (drop (r .next) (take (r .end) input))) line → ReadOn r input line q input line′
-  unfolding readOn offered
-  from-before q h e l =
-      let t : isUnused r (take (r .end) input) ≡ true = lt-ltb _ _ h in
-      record { reader = rw t e; text = rw t l; kept = λ _. refl; inside = rw e (omega (arith, length-take (r .end) input)); fewer = rw e (omega arith) }
+module _ (r : Reader) (n : ℕ) (input line line′ : List ℕ) where
+  -- what is due of the reader, and of the line
+  abbrev Due : Reader → Type 0
+  Due q = ((q ≡ nextTaken r n input) × (q .left ≤ r .left - 1)) × (line′ ≡ laid (lengthBefore r) (beforeFeed (offered r n input)) line)
 
-  module _ (input′ : List ℕ) (h : length (take (r .end) input) ≤ r .next) where
-    used-up : isUnused r (take (r .end) input) ≡ false
-    used-up = le-ltb _ _ h
+  pub from-left : (q : Reader) → isUsedUp r ≡ false → q ≡ partTaken r (r .next) (take (r .end) input)
+      → line′ ≡ laid (lengthBefore r) (beforeFeed (drop (r .next) (take (r .end) input))) line → Due q
+  unfolding nextTaken offered
+  from-left q t e l = ((rw t e, rw e (omega arith)), rw t l)
 
-    nothing-left : isUnused r (take (r .end) input) ≡ true → input′ ≡ input
-    nothing-left t = let z : _≡_ {A = Bool} true false = cc used-up in cc
+  pub at-end : (q : Reader) → isUsedUp r ≡ true → n ≡ 0 → q ≡ ended r → line′ ≡ line → Due q
+  unfolding nextTaken offered
+  at-end q t z e l = ((rw (t, z) e, rw e (omega arith)), rw (t, z, take-nil) (l ∙ put-none line _ .1))
 
-    -- the read brought nothing
-    pub at-end : (q : Reader) → q ≡ ended r → line′ ≡ line → ReadOn r input line q input′ line′
-    unfolding readOn offered
-    at-end q e l =
-        record {
-          reader = rw (e, used-up);
-          text = rw (e, used-up, take-nil) (l ∙ put-none line _ .1);
-          kept = nothing-left;
-          inside = rw e (omega arith);
-          fewer = rw e (omega arith);
-        }
+  pub from-read : (q : Reader) → isUsedUp r ≡ true → (n ≡ 0 → ⊥) → q ≡ partTaken r 0 (take n input)
+      → line′ ≡ laid (lengthBefore r) (beforeFeed (take n input)) line → Due q
+  unfolding nextTaken offered
+  from-read q t z e l = ((rw (t, ne-eqb _ _ z) e, rw e (omega arith)), rw t l)
 
-    -- the read brought n bytes
-    pub from-read : (q : Reader) (n : ℕ) → 0 < n → n ≤ length input′ → q ≡ partTaken r 0 (take n input′)
-        → line′ ≡ laid (lengthBefore r) (beforeFeed (take n input′)) line → ReadOn r input line q input′ line′
-    unfolding readOn offered
-    from-read q n p m e l =
-        let k : length (take n input′) ≡ n = length-take-le n input′ m in
-        let d : q .end ≡ n = rw e k in
-        let b : take (q .end) input′ ≡ take n input′ = ap (λ (m : ℕ). take m input′) d in
-        let z : eqb (length (take n input′)) 0 ≡ false = ne-eqb _ _ (λ (x : length (take n input′) ≡ 0). omega arith) in
-        record {
-          reader = rw (b, used-up, z) e;
-          text = rw (b, used-up) l;
-          kept = nothing-left;
-          inside = omega arith;
-          fewer = rw e (omega arith);
-        }
+-- what was left, or what a read brought, is what the line got, its line feed, and what is left then
+module _ (r : Reader) (n : ℕ) (input : List ℕ) where
+  pub left-parted : isUsedUp r ≡ false
+      → offered r n input ≡ beforeFeed (offered r n input) ++ (feedOf (nextTaken r n input .complete) ++ drop (nextTaken r n input .next) (take (r .end) input))
+  unfolding offered nextTaken
+  left-parted t = rw t (parted (lengthBefore r) (r .next) (take (r .end) input))
 
--- ---- no byte is lost and none is taken twice: what a call had, or read, is what the line got, its line feed, and what is left
-
-module _ (r : Reader) (had more : List ℕ) where
-  pub from-before-parted : isUnused r had ≡ true
-      → offered r had more ≡ beforeFeed (offered r had more) ++ (feedOf (readOn r had more .complete) ++ drop (readOn r had more .next) had)
-  unfolding offered readOn
-  from-before-parted t = rw t (parted (lengthBefore r) (r .next) had)
-
-  pub from-read-parted : isUnused r had ≡ false → 0 < length more
-      → offered r had more ≡ beforeFeed (offered r had more) ++ (feedOf (readOn r had more .complete) ++ drop (readOn r had more .next) more)
-  unfolding offered readOn
-  from-read-parted t h =
-      let z : eqb (length more) 0 ≡ false = ne-eqb _ _ (λ (x : length more ≡ 0). omega arith) in
-      rw (t, z) (parted (lengthBefore r) 0 more)
+  pub read-parted : isUsedUp r ≡ true → eqb n 0 ≡ false
+      → offered r n input ≡ beforeFeed (offered r n input) ++ (feedOf (nextTaken r n input .complete) ++ drop (nextTaken r n input .next) (take n input))
+  unfolding offered nextTaken
+  read-parted t z = rw (t, z) (parted (lengthBefore r) 0 (take n input))

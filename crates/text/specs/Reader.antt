@@ -1,15 +1,13 @@
 -- The replay format (docs/REPLAY.md), "Lines in": the input is read part by part, and a line is complete as soon as its line feed was read.
 -- Assumes nothing.
-use Prim.Native.Nat.{ℕ, _-_, _≤_}
-use mathlib.Core.Path.{_≡_}
+use Prim.Native.Nat.{ℕ, _-_}
 use mathlib.Core.List.{List}
 use mathlib.Core.Bool.{Bool, true, false, cond}
 use lib.ListN.{length, take, drop}
-use lib.Dec.{eqb, ltb}
+use lib.Dec.{eqb, leb}
 use Rattle.text.specs.declared.line.Gathered.{Gathered}
 use Rattle.text.specs.declared.reader.Reader.{Reader}
-use Rattle.text.specs.Line.{beforeFeed, gathered}
-use Rattle.text.specs.Put.{laid}
+use Rattle.text.specs.Line.{gathered}
 
 -- before the first read
 abbrev pub fresh : Reader
@@ -30,23 +28,14 @@ partTaken r from read = withPart r (length read) (gathered (lengthBefore r) from
 abbrev pub ended : Reader → Reader
 ended r = record { next = 0; end = 0; len = lengthBefore r; complete = true; left = 0 }
 
--- whether something is left of what was read
-abbrev pub isUnused : Reader → List ℕ → Bool
-isUnused r had = ltb (r .next) (length had)
+-- whether nothing is left of what was read
+abbrev pub isUsedUp : Reader → Bool
+isUsedUp r = leb (r .end) (r .next)
 
--- the bytes in which the line goes on: what is left of those that were read, or else those of one more read
-unfoldable pub offered : Reader → List ℕ → List ℕ → List ℕ
-offered r had more = cond (isUnused r had) (drop (r .next) had) more
+-- The bytes in which the line goes on: what is left of those that were read; or else the n bytes that one more read brought to the input's start.
+unfoldable pub offered : Reader → ℕ → List ℕ → List ℕ
+offered r n input = cond (isUsedUp r) (take n input) (drop (r .next) (take (r .end) input))
 
--- The reader after that, and after the input's end where the read brought nothing.
-unfoldable pub readOn : Reader → List ℕ → List ℕ → Reader
-readOn r had more = cond (isUnused r had) (partTaken r (r .next) had) (cond (eqb (length more) 0) (ended r) (partTaken r 0 more))
-
--- What a call comes to. Nobody knows how many bytes a read brings, and which: they are those that the input has afterwards.
-pub record ReadOn (r : Reader) (input line : List ℕ) (q : Reader) (input′ line′ : List ℕ) : Type 0 where
-  pub reader : q ≡ readOn r (take (r .end) input) (take (q .end) input′)
-  pub text : line′ ≡ laid (lengthBefore r) (beforeFeed (offered r (take (r .end) input) (take (q .end) input′))) line
-  -- nothing is read while something is left
-  pub kept : isUnused r (take (r .end) input) ≡ true → input′ ≡ input
-  pub inside : q .end ≤ length input′
-  pub fewer : q .left ≤ r .left - 1
+-- The reader after that; where the read brought nothing, after the input's end.
+unfoldable pub nextTaken : Reader → ℕ → List ℕ → Reader
+nextTaken r n input = cond (isUsedUp r) (cond (eqb n 0) (ended r) (partTaken r 0 (take n input))) (partTaken r (r .next) (take (r .end) input))

@@ -45,7 +45,7 @@ pub fn read_number(word: &[u8], most: u64) -> Number
     Number::Value(value)
 }
 
-// The number that a word is, if it has 16 bits.
+// The number that a word is, if it fits 16 bits.
 pub fn read_number16(word: &[u8]) -> Number16
     ensures { λ r. ⌜ r ≡ number16In (now (word .entry)) ⌝ }
 {
@@ -55,7 +55,7 @@ pub fn read_number16(word: &[u8]) -> Number16
     }
 }
 
-// The number that a word is, if it has 32 bits.
+// The number that a word is, if it fits 32 bits.
 pub fn read_number32(word: &[u8]) -> Number32
     ensures { λ r. ⌜ r ≡ number32In (now (word .entry)) ⌝ }
 {

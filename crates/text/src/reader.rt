@@ -3,12 +3,13 @@ use crate::line::gather;
 use crate::part::first;
 use libc::STDIN_FILENO;
 ghost use mathlib.Core.Path.{_≡_};
-ghost use Prim.Native.Nat.{_-_};
+ghost use Prim.Native.Nat.{_-_, _≤_};
+ghost use mathlib.Core.Bool.{false};
 ghost use lib.ListN.{drop};
 ghost use Rattle.io.specs.Counts.{Counts};
 ghost use Rattle.text.specs.Line.{beforeFeed};
 ghost use Rattle.text.specs.Put.{laid};
-ghost use Rattle.text.specs.Reader.{fresh, lengthBefore, partTaken, ReadOn};
+ghost use Rattle.text.specs.Reader.{fresh, lengthBefore, partTaken, isUsedUp, offered, nextTaken};
 
 // How many bytes one read may bring.
 pub const INPUT: usize = 65536;
@@ -69,25 +70,36 @@ fn take_part(r: Reader, line: &mut [u8], read: &[u8], from: usize) -> Reader
     }
 }
 
-// One read. One that fails counts as the end of the input.
-fn read_once(input: &mut [u8]) -> usize
-    ensures { λ n. ⌜ Counts n (now (input .exit)) ⌝ }
+// Whether nothing is left of what was read.
+fn is_used_up(r: Reader) -> bool
+    ensures { λ b. ⌜ b ≡ isUsedUp r ⌝ }
 {
-    let got = libc::read(STDIN_FILENO, input);
-    io::count(got, input)
+    r.end <= r.next
 }
 
-// Takes the next part of the line, after a read where none is left. At the end of the input the line counts as complete, and no parts are left.
-pub fn read_on(r: Reader, input: &mut [u8], line: &mut [u8]) -> Reader
-    ensures { λ q. ⌜ ReadOn r (now (input .entry)) (now (line .entry)) q (now (input .exit)) (now (line .exit)) ⌝ }
+// Reads to the input's start where nothing is left, and returns how many bytes came. A read that fails counts as the end of the input.
+pub fn read_if_used_up(r: Reader, input: &mut [u8]) -> usize
+    ensures { λ n. ⌜ Counts n (now (input .exit)) ⌝ }
+    ensures { λ _. ⌜ (isUsedUp r ≡ false → now (input .exit) ≡ now (input .entry)) ⌝ }
 {
-    let end = r.end;
-    let next = r.next;
-    let had = first(input, end);
-    if next < had.len() {
-        return take_part(r, line, had, next);
+    if is_used_up(r) {
+        let got = libc::read(STDIN_FILENO, input);
+        return io::count(got, input);
     }
-    let n = read_once(input);
+    0
+}
+
+// Takes the next part of the line: of what is left, or else of the n bytes that a read brought. None is the end of the input: the line counts as complete,
+// and no parts are left.
+pub fn take_next(r: Reader, n: usize, input: &[u8], line: &mut [u8]) -> Reader
+    ensures { λ q. ⌜ (q ≡ nextTaken r n (now (input .entry))) × (q .left ≤ r .left - 1) ⌝ }
+    ensures { λ _. ⌜ now (line .exit) ≡ laid (lengthBefore r) (beforeFeed (offered r n (now (input .entry)))) (now (line .entry)) ⌝ }
+{
+    if !is_used_up(r) {
+        let end = r.end;
+        let next = r.next;
+        return take_part(r, line, first(input, end), next);
+    }
     if n == 0 {
         return Reader {
             next: 0,

@@ -10,4 +10,5 @@ returns-2 c = rw (c .before .check .given .1)
 pub event-of-spec : {M : Type 1} → statement M
 event-of-spec =
     tie.close
-    (tie.spec (λ c. search needs) (λ c. search needs) (λ c. search needs) returns-2)
+    (tie.spec
+    (λ c. search needs) (λ c. search needs) (λ c. search needs) returns-2)

@@ -10,4 +10,5 @@ returns c = (rw (c .before .before .put .ensures .0), c .before .before .put .en
 pub bad-line-spec : {M : Type 1} → statement M
 bad-line-spec =
     tie.close
-    (tie.spec (λ c. search needs) (λ c κs. search needs) (λ c. search needs) returns)
+    (tie.spec
+    (λ c. search needs) (λ c κs. search needs) (λ c. search needs) returns)

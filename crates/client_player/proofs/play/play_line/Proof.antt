@@ -25,4 +25,5 @@ returns-3 c = rw (sym (c .before .before .before .before .before .before .is-sil
 pub play-line-spec : {M : Type 1} → statement M
 play-line-spec =
     tie.close
-    (tie.spec (λ c κs. search needs) returns (λ c κs. search needs) (λ c. search needs) returns-2 (λ c κs. search needs) (λ c. search needs) returns-3)
+    (tie.spec
+    (λ c κs. search needs) returns (λ c κs. search needs) (λ c. search needs) returns-2 (λ c κs. search needs) (λ c. search needs) returns-3)

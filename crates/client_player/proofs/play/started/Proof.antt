@@ -10,4 +10,5 @@ returns c = rw (c .event-of .ensures)
 pub started-spec : {M : Type 1} → statement M
 started-spec =
     tie.close
-    (tie.spec (λ c κs. search needs) returns)
+    (tie.spec
+    (λ c κs. search needs) returns)

@@ -10,4 +10,5 @@ returns c = rw (c .before .time-at .ensures) at (c .start-order .ensures)
 pub read-start-spec : {M : Type 1} → statement M
 read-start-spec =
     tie.close
-    (tie.spec (λ c κs. search needs) (λ c κs. search needs) returns)
+    (tie.spec
+    (λ c κs. search needs) (λ c κs. search needs) returns)

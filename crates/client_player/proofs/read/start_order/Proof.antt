@@ -10,4 +10,5 @@ returns-2 c = rw (c .before .size .given .1)
 pub start-order-spec : {M : Type 1} → statement M
 start-order-spec =
     tie.close
-    (tie.spec (λ c. search needs) (λ c. search needs) (λ c. search needs) returns-2)
+    (tie.spec
+    (λ c. search needs) (λ c. search needs) (λ c. search needs) returns-2)

@@ -11,7 +11,4 @@ pub bad-line-spec : {M : Type 1} → statement M
 bad-line-spec =
     tie.close
     (tie.spec
-    (λ c. search needs)
-    (λ c κs. search needs)
-    (λ c. search needs)
-    returns)
+    (λ c. search needs) (λ c κs. search needs) (λ c. search needs) returns)

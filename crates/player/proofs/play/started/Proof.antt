@@ -11,5 +11,4 @@ pub started-spec : {M : Type 1} → statement M
 started-spec =
     tie.close
     (tie.spec
-    (λ c κs. search needs)
-    returns)
+    (λ c κs. search needs) returns)
