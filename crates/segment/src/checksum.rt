@@ -2,13 +2,24 @@
 use crate::number::word16;
 ghost use mathlib.Core.Path.{_≡_};
 ghost use mathlib.Core.Bool.{true};
-ghost use Prim.Native.Nat.{_*_, _≤_, _<_};
-ghost use lib.ListN.{length};
+ghost use Prim.Native.Nat.{_+_, _*_, _≤_, _<_};
+ghost use lib.ListN.{length, drop};
 ghost use Rattle.segment.specs.Checksum.{onesSum, oneFamily, pseudoHeader, checksumRight};
-ghost use Rattle.segment.specs.Totals.{total, folded};
+ghost use Rattle.segment.specs.Totals.{exchanged, exchangedAt, total, mostTotal, lanesTotal, folded};
 
 // How many bytes are added up before the carries are added too: an even number, whose words come to less than 2^32.
 const RUN: usize = 65536;
+
+// How many bytes a pass takes: a word for each lane of two registers.
+const PASS: usize = 16;
+
+// Four totals side by side, which the compiler keeps in one vector register.
+struct Lanes {
+    a: u32,
+    b: u32,
+    c: u32,
+    d: u32,
+}
 
 // A total with its carries added at the low end.
 fn fold(total: u32) -> u16
@@ -18,37 +29,106 @@ fn fold(total: u32) -> u16
     (t % 65536 + t / 65536) as u16
 }
 
-// As wide as a total; the contract has the bound that a sum of them needs.
+// A word with its two bytes exchanged; the contract has the bound that a sum needs.
+fn exchange(x: u16) -> u16
+    ensures { λ r. ⌜ (r ≡ exchanged x) × (x < 65536) ⌝ }
+{
+    x % 256 * 256 + x / 256
+}
+
+// As wide as a total; the contract has the bound, too.
 fn wide(x: u16) -> u32
     ensures { λ r. ⌜ (r ≡ x) × (x < 65536) ⌝ }
 {
     x as u32
 }
 
-// The words of `s` added up, an odd last byte padded with a zero. With the carries put off, a turn is one addition.
-fn total_of(s: &[u8]) -> u32
-    requires { ⌜ length (now s) ≤ 65536 ⌝ }
-    ensures { λ r. ⌜ (r ≡ total (now (s .entry))) × (r ≤ 32768 * 65535) ⌝ }
+// The word at a place, its bytes exchanged: the form in which the compiler reads many at once.
+fn exchanged_at(s: &[u8], i: usize) -> u32
+    requires { ⌜ i + 2 ≤ length (now s) ⌝ }
+    ensures { λ r. ⌜ r ≡ exchangedAt (now (s .entry)) i ⌝ }
+{
+    wide(word16(s[i + 1], s[i]))
+}
+
+// Half a pass: four words, one to each lane.
+fn add_words(l: Lanes, s: &[u8], i: usize) -> Lanes
+    requires { ⌜ (i + 8 ≤ length (now s)) × (lanesTotal l + total (drop i (now s)) ≤ mostTotal) ⌝ }
+    ensures { λ r. ⌜ lanesTotal r + total (drop (i + 8) (now (s .entry))) ≡ lanesTotal l + total (drop i (now (s .entry))) ⌝ }
+{
+    Lanes {
+        a: l.a + exchanged_at(s, i),
+        b: l.b + exchanged_at(s, i + 2),
+        c: l.c + exchanged_at(s, i + 4),
+        d: l.d + exchanged_at(s, i + 6),
+    }
+}
+
+// What the lanes come to together.
+fn joined(l: Lanes) -> u32
+    requires { ⌜ lanesTotal l ≤ mostTotal ⌝ }
+    ensures { λ r. ⌜ r ≡ lanesTotal l ⌝ }
+{
+    l.a + l.b + l.c + l.d
+}
+
+// The words of some passes added up, eight in a pass.
+fn total_of_passes(s: &[u8], passes: usize) -> u32
+    requires { ⌜ (16 * passes ≤ length (now s)) × (total (now s) ≤ mostTotal) ⌝ }
+    ensures { λ r. ⌜ r + total (drop (16 * passes) (now (s .entry))) ≡ total (now (s .entry)) ⌝ }
+{
+    let none = Lanes {
+        a: 0,
+        b: 0,
+        c: 0,
+        d: 0,
+    };
+    let mut first = none;
+    let mut second = none;
+    let mut k = 0;
+    while k < passes {
+        let i = PASS * k;
+        first = add_words(first, s, i);
+        second = add_words(second, s, i + 8);
+        k += 1;
+    }
+    joined(first) + joined(second)
+}
+
+// The words that are left added up, an odd last byte padded with a zero.
+fn total_of_rest(s: &[u8]) -> u32
+    requires { ⌜ total (now s) ≤ mostTotal ⌝ }
+    ensures { λ r. ⌜ r ≡ total (now (s .entry)) ⌝ }
 {
     let pairs = s.len() / 2;
     let mut sum: u32 = 0;
     let mut k = 0;
     while k < pairs {
-        sum += wide(word16(s[2 * k], s[2 * k + 1]));
+        sum += exchanged_at(s, 2 * k);
         k += 1;
     }
     if s.len() % 2 == 1 {
-        sum += wide(word16(s[2 * pairs], 0));
+        sum += wide(word16(0, s[2 * pairs]));
     }
     sum
 }
 
-// The words of at most RUN bytes added to a sum.
+// The words of `s` added up with their carries put off.
+fn total_of(s: &[u8]) -> u32
+    requires { ⌜ total (now s) ≤ mostTotal ⌝ }
+    ensures { λ r. ⌜ r ≡ total (now (s .entry)) ⌝ }
+{
+    let passes = s.len() / PASS;
+    let rest = PASS * passes;
+    total_of_passes(s, passes) + total_of_rest(&s[rest..])
+}
+
+// The words of at most RUN bytes added to a sum: as exchanged words, since the sum of those is the sum exchanged.
 fn add_run(sum: u16, s: &[u8]) -> u16
     requires { ⌜ length (now s) ≤ 65536 ⌝ }
     ensures { λ r. ⌜ r ≡ onesSum sum (now (s .entry)) ⌝ }
 {
-    fold(wide(sum) + total_of(s))
+    exchange(fold(wide(exchange(sum)) + total_of(s)))
 }
 
 // The words of `s` added to a sum, an odd last byte padded with a zero.

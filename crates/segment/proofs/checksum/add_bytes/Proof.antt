@@ -5,8 +5,8 @@ use mathlib.Core.Path.{_≡_, refl, sym, _∙_}
 use mathlib.Core.List.{List}
 use native.Mathlib.Omega.{arith}
 use native.Mathlib.Nat.{add-sub-cancel-left}
-use lib.ListN.{length, take, drop, length-drop}
-use lib.Seq.{take-all}
+use lib.ListN.{length, take, drop}
+use Rattle.lists.proofs.Lent.{lent-out}
 use Rattle.segment.specs.Checksum.{onesSum}
 use Rattle.segment.proofs.Total.{run-on}
 use borrow.Author.Needs.{needs}
@@ -27,51 +27,17 @@ abbrev μ-loop : tie.MeasureT-loop
 loop-holds : tie.Need-loop-holds Inv-loop μ-loop
 loop-holds c = (refl, (search needs, refl))
 
-sub-loop : tie.Need-sub-loop Inv-loop μ-loop
-sub-loop c = search needs
-
-add-end : tie.Need-add-end Inv-loop μ-loop
-add-end c = search needs
-
-sub-add-run : tie.Need-sub-add-run Inv-loop μ-loop
-sub-add-run c = search needs
-
-part-add-run-start : tie.Need-part-add-run-start Inv-loop μ-loop
-part-add-run-start c = search needs
-
-part-add-run-end : tie.Need-part-add-run-end Inv-loop μ-loop
-part-add-run-end c = search needs
-
-add-run-requires : tie.Need-add-run-requires Inv-loop μ-loop
-add-run-requires c κs = search needs
-
-loop-less : tie.Need-loop-less Inv-loop μ-loop
-loop-less c = search needs
-
 loop-again : tie.Need-loop-again Inv-loop μ-loop
 loop-again c =
     let q = c .before .before .before .loop in
     let s = c .before .before .before .before .before .args .s .now in
     (refl, (omega arith, goes-on (q .acc) _ s (q .i) _ _ (c .add-run .ensures) (q .inv .1 .1) refl (omega arith)))
 
-sub-add-run-2 : tie.Need-sub-add-run-2 Inv-loop μ-loop
-sub-add-run-2 c = search needs
-
-part-add-run-start-2 : tie.Need-part-add-run-start-2 Inv-loop μ-loop
-part-add-run-start-2 c = search needs
-
-part-add-run-end-2 : tie.Need-part-add-run-end-2 Inv-loop μ-loop
-part-add-run-end-2 c = search needs
-
-add-run-requires-2 : tie.Need-add-run-requires-2 Inv-loop μ-loop
-add-run-requires-2 c κs = search needs
-
 returns : tie.Need-returns Inv-loop μ-loop
 returns c =
     let q = c .before .before .before .loop in
     let s = c .before .before .before .before .before .args .s .now in
-    let t : take (length s - q .i) (drop (q .i) s) ≡ drop (q .i) s = take-all (length s - q .i) (drop (q .i) s) (omega (arith, length-drop (q .i) s)) in
-    c .add-run2 .ensures ∙ rw t (q .inv .1 .1)
+    c .add-run2 .ensures ∙ rw (lent-out s (q .i)) (q .inv .1 .1)
 
 pub add-bytes-spec : {M : Type 1} → statement M
 add-bytes-spec =
@@ -80,16 +46,16 @@ add-bytes-spec =
     Inv-loop
     μ-loop
     loop-holds
-    sub-loop
-    add-end
-    sub-add-run
-    part-add-run-start
-    part-add-run-end
-    add-run-requires
-    loop-less
+    (λ c. search needs)
+    (λ c. search needs)
+    (λ c. search needs)
+    (λ c. search needs)
+    (λ c. search needs)
+    (λ c κs. search needs)
+    (λ c. search needs)
     loop-again
-    sub-add-run-2
-    part-add-run-start-2
-    part-add-run-end-2
-    add-run-requires-2
+    (λ c. search needs)
+    (λ c. search needs)
+    (λ c. search needs)
+    (λ c κs. search needs)
     returns)

@@ -7,17 +7,8 @@ use borrow.Author.Needs.{needs}
 use Rattle.segment.proofs.checksum.fold.Statement.{statement}
 use Rattle.segment.proofs.checksum.fold.Tie as tie
 
-add-t : tie.Need-add-t
-add-t c = search needs
-
-add-result : tie.Need-add-result
-add-result c = search needs
-
-cast-result : tie.Need-cast-result
-cast-result c = search needs
-
 returns : tie.Need-returns
 returns c = two-steps (c .args .total) _ (omega arith) refl
 
 pub fold-spec : {M : Type 1} → statement M
-fold-spec = tie.close (tie.spec add-t add-result cast-result returns)
+fold-spec = tie.close (tie.spec (λ c. search needs) (λ c. search needs) (λ c. search needs) returns)
