@@ -22,23 +22,8 @@ Inv-loop2 t w₀ k n₀ w n = (n ≤ 40) × (length w ≡ 176) × (take (n * 4 +
 abbrev μ-loop2 : tie.MeasureT-loop2
 μ-loop2 t w₀ k n₀ w n = 40 - n
 
-s-box-requires : tie.Need-s-box-requires Inv-loop μ-loop Inv-loop2 μ-loop2
-s-box-requires c κs = search needs
-
 loop-holds : tie.Need-loop-holds Inv-loop μ-loop Inv-loop2 μ-loop2
 loop-holds c = (omega arith, refl, refl)
-
-array-read-w : tie.Need-array-read-w Inv-loop μ-loop Inv-loop2 μ-loop2
-array-read-w c = search needs
-
-array-write-w : tie.Need-array-write-w Inv-loop μ-loop Inv-loop2 μ-loop2
-array-write-w c = search needs
-
-add-k : tie.Need-add-k Inv-loop μ-loop Inv-loop2 μ-loop2
-add-k c = search needs
-
-loop-less : tie.Need-loop-less Inv-loop μ-loop Inv-loop2 μ-loop2
-loop-less c = search needs
 
 loop-again : tie.Need-loop-again Inv-loop μ-loop Inv-loop2 μ-loop2
 loop-again c = (
@@ -51,20 +36,8 @@ loop2-holds : tie.Need-loop2-holds Inv-loop μ-loop Inv-loop2 μ-loop2
 unfolding schedule
 loop2-holds c = (omega arith, c .before .loop .inv .1, refl)
 
-add-i : tie.Need-add-i Inv-loop μ-loop Inv-loop2 μ-loop2
-add-i c = search needs
-
 next-word-requires : tie.Need-next-word-requires Inv-loop μ-loop Inv-loop2 μ-loop2
 next-word-requires c κs = (c .before .before .before .before .before .before .s-box .ensures, omega arith, omega arith)
-
-put-word-requires : tie.Need-put-word-requires Inv-loop μ-loop Inv-loop2 μ-loop2
-put-word-requires c κs = search needs
-
-add-n : tie.Need-add-n Inv-loop μ-loop Inv-loop2 μ-loop2
-add-n c = search needs
-
-loop2-less : tie.Need-loop2-less Inv-loop μ-loop Inv-loop2 μ-loop2
-loop2-less c = search needs
 
 loop2-again : tie.Need-loop2-again Inv-loop μ-loop Inv-loop2 μ-loop2
 loop2-again c =
@@ -79,22 +52,6 @@ pub expand-key-spec : {M : Type 1} → statement M
 expand-key-spec =
     tie.close
     (tie.spec
-    Inv-loop
-    μ-loop
-    Inv-loop2
-    μ-loop2
-    s-box-requires
-    loop-holds
-    array-read-w
-    array-write-w
-    add-k
-    loop-less
-    loop-again
-    loop2-holds
-    add-i
-    next-word-requires
-    put-word-requires
-    add-n
-    loop2-less
-    loop2-again
-    returns)
+    Inv-loop μ-loop Inv-loop2 μ-loop2 (λ c κs. search needs) loop-holds (λ c. search needs) (λ c. search needs)
+    (λ c. search needs) (λ c. search needs) loop-again loop2-holds (λ c. search needs) next-word-requires
+    (λ c κs. search needs) (λ c. search needs) (λ c. search needs) loop2-again returns)

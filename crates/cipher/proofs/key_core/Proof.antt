@@ -7,18 +7,6 @@ use borrow.Author.Needs.{needs}
 use Rattle.cipher.proofs.key_core.Statement.{statement}
 use Rattle.cipher.proofs.key_core.Tie as tie
 
-rot-word-requires : tie.Need-rot-word-requires
-rot-word-requires c κs = search needs
-
-sub-word-requires : tie.Need-sub-word-requires
-sub-word-requires c κs = search needs
-
-round-constant-requires : tie.Need-round-constant-requires
-round-constant-requires c κs = search needs
-
-xor-word-requires : tie.Need-xor-word-requires
-xor-word-requires c κs = search needs
-
 returns : tie.Need-returns
 returns c = c .xor-word .ensures ∙ ap₂ xorWord (c .before .before .sub-word .ensures ∙ ap subWord (c .before .before .before .rot-word .ensures)) (c .before .round-constant .ensures)
 
@@ -26,8 +14,4 @@ pub key-core-spec : {M : Type 1} → statement M
 key-core-spec =
     tie.close
     (tie.spec
-    rot-word-requires
-    sub-word-requires
-    round-constant-requires
-    xor-word-requires
-    returns)
+    (λ c κs. search needs) (λ c κs. search needs) (λ c κs. search needs) (λ c κs. search needs) returns)

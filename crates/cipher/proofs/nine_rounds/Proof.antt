@@ -5,33 +5,6 @@ use borrow.Author.Needs.{needs}
 use Rattle.cipher.proofs.nine_rounds.Statement.{statement}
 use Rattle.cipher.proofs.nine_rounds.Tie as tie
 
-round-requires : tie.Need-round-requires
-round-requires c κs = search needs
-
-round-requires-2 : tie.Need-round-requires-2
-round-requires-2 c κs = search needs
-
-round-requires-3 : tie.Need-round-requires-3
-round-requires-3 c κs = search needs
-
-round-requires-4 : tie.Need-round-requires-4
-round-requires-4 c κs = search needs
-
-round-requires-5 : tie.Need-round-requires-5
-round-requires-5 c κs = search needs
-
-round-requires-6 : tie.Need-round-requires-6
-round-requires-6 c κs = search needs
-
-round-requires-7 : tie.Need-round-requires-7
-round-requires-7 c κs = search needs
-
-round-requires-8 : tie.Need-round-requires-8
-round-requires-8 c κs = search needs
-
-round-requires-9 : tie.Need-round-requires-9
-round-requires-9 c κs = search needs
-
 returns : tie.Need-returns
 returns c =
     next-round _ _ 8 (c .round9 .ensures)
@@ -48,13 +21,6 @@ pub nine-rounds-spec : {M : Type 1} → statement M
 nine-rounds-spec =
     tie.close
     (tie.spec
-    round-requires
-    round-requires-2
-    round-requires-3
-    round-requires-4
-    round-requires-5
-    round-requires-6
-    round-requires-7
-    round-requires-8
-    round-requires-9
-    returns)
+    (λ c κs. search needs) (λ c κs. search needs) (λ c κs. search needs) (λ c κs. search needs)
+    (λ c κs. search needs) (λ c κs. search needs) (λ c κs. search needs) (λ c κs. search needs)
+    (λ c κs. search needs) returns)

@@ -10,16 +10,10 @@ use Rattle.cipher.proofs.round_constant.Tie as tie
 use Rattle.cipher.proofs.round_constant.Reads as reads
 use Rattle.cipher.proofs.round_constant.Lts as lts
 
-sub-t3 : tie.Need-sub-t3
-sub-t3 c = search needs
-
-array-read-t6 : tie.Need-array-read-t6
-array-read-t6 c = search needs
-
 -- `m1` is the state after the table was made; the table is its local 2
 returns : tie.Need-returns
 unfolding powerOfX xtime
 returns c = rcon-tested (lts.m1 reads.Pre reads.Post (c .args) (c .blocks) .1 .1 .0) refl tt (c .args .i) (search needs)
 
 pub round-constant-spec : {M : Type 1} → statement M
-round-constant-spec = tie.close (tie.spec sub-t3 array-read-t6 returns)
+round-constant-spec = tie.close (tie.spec (λ c. search needs) (λ c. search needs) returns)

@@ -5,15 +5,9 @@ use borrow.Author.Needs.{needs}
 use Rattle.cipher.proofs.share_of.Statement.{statement}
 use Rattle.cipher.proofs.share_of.Tie as tie
 
-mul-result : tie.Need-mul-result
-mul-result c = search needs
-
-element-copy-out-result : tie.Need-element-copy-out-result
-element-copy-out-result c = search needs
-
 returns : tie.Need-returns
 unfolding IsTTable
 returns c = c .before .pre (c .before .args .x) (search needs)
 
 pub share-of-spec : {M : Type 1} → statement M
-share-of-spec = tie.close (tie.spec mul-result element-copy-out-result returns)
+share-of-spec = tie.close (tie.spec (λ c. search needs) (λ c. search needs) returns)

@@ -5,12 +5,9 @@ use borrow.Author.Needs.{needs}
 use Rattle.cipher.proofs.sub_byte.Statement.{statement}
 use Rattle.cipher.proofs.sub_byte.Tie as tie
 
-element-copy-out-result : tie.Need-element-copy-out-result
-element-copy-out-result c = search needs
-
 returns : tie.Need-returns
 unfolding IsSBox
 returns c = c .before .pre (c .before .args .x) (search needs)
 
 pub sub-byte-spec : {M : Type 1} → statement M
-sub-byte-spec = tie.close (tie.spec element-copy-out-result returns)
+sub-byte-spec = tie.close (tie.spec (λ c. search needs) returns)

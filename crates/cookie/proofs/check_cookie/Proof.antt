@@ -21,15 +21,6 @@ module _ (c : tie.Else1) where
   other : sameBytes (entry made .args .given .now) (made .make-cookie .result) ≡ false
   other = sym (c .before .is-cookie .ensures) ∙ c .if1 .left
 
-make-cookie-requires : tie.Need-make-cookie-requires
-make-cookie-requires c κs = search needs
-
-is-cookie-requires : tie.Need-is-cookie-requires
-is-cookie-requires c κs = search needs
-
-checked-requires : tie.Need-checked-requires
-checked-requires c κs = search needs
-
 returns : tie.Need-returns
 returns c =
     let compared = c .before .before in
@@ -37,23 +28,11 @@ returns c =
     let a = entry new .args in
     rw (c .checked .ensures) (cookie-present (a .keys) (a .b) (a .given .now) (new .make-cookie .ensures) (sym (compared .is-cookie .ensures) ∙ c .before .if1 .taken))
 
-checked-requires-2 : tie.Need-checked-requires-2
-checked-requires-2 c κs = search needs
-
 returns-2 : tie.Need-returns-2
 returns-2 c =
     let p = c .before .before .before in
     let a = entry (made p) .args in
     rw (c .checked2 .ensures) (cookie-alone (a .keys) (a .b) (a .given .now) (made p .make-cookie .ensures) (other p) (not-true _ (c .before .if2 .taken)))
-
-make-cookie-requires-2 : tie.Need-make-cookie-requires-2
-make-cookie-requires-2 c κs = search needs
-
-is-cookie-requires-2 : tie.Need-is-cookie-requires-2
-is-cookie-requires-2 c κs = search needs
-
-checked-requires-3 : tie.Need-checked-requires-3
-checked-requires-3 c κs = search needs
 
 returns-3 : tie.Need-returns-3
 returns-3 c =
@@ -67,13 +46,5 @@ pub check-cookie-spec : {M : Type 1} → statement M
 check-cookie-spec =
     tie.close
     (tie.spec
-    make-cookie-requires
-    is-cookie-requires
-    checked-requires
-    returns
-    checked-requires-2
-    returns-2
-    make-cookie-requires-2
-    is-cookie-requires-2
-    checked-requires-3
-    returns-3)
+    (λ c κs. search needs) (λ c κs. search needs) (λ c κs. search needs) returns (λ c κs. search needs) returns-2
+    (λ c κs. search needs) (λ c κs. search needs) (λ c κs. search needs) returns-3)

@@ -9,37 +9,10 @@ use borrow.Author.Needs.{needs}
 use Rattle.cookie.proofs.check_option.Statement.{statement}
 use Rattle.cookie.proofs.check_option.Tie as tie
 
-no-option-requires : tie.Need-no-option-requires
-no-option-requires c κs = search needs
-
 returns : tie.Need-returns
 returns c =
     let a = c .before .before .before .args in
     considered-off (a .enabled) (a .keys) (a .b) (c .no-option .result) (found (a .fast) (a .area .now)) (not-true _ (c .before .if1 .taken)) (c .no-option .ensures .0) (c .no-option .ensures .1)
-
-enum-told : tie.Need-enum-told
-enum-told c = search needs
-
-no-option-requires-2 : tie.Need-no-option-requires-2
-no-option-requires-2 c κs = search needs
-
-enum-told-2 : tie.Need-enum-told-2
-enum-told-2 c = search needs
-
-make-cookie-requires : tie.Need-make-cookie-requires
-make-cookie-requires c κs = search needs
-
-checked-requires : tie.Need-checked-requires
-checked-requires c κs = search needs
-
-enum-known-fast : tie.Need-enum-known-fast
-enum-known-fast c = search needs
-
-cookie-requires : tie.Need-cookie-requires
-cookie-requires c κs = search needs
-
-check-cookie-requires : tie.Need-check-cookie-requires
-check-cookie-requires c κs = search needs
 
 returns-2 : tie.Need-returns-2
 returns-2 c =
@@ -64,16 +37,6 @@ pub check-option-spec : {M : Type 1} → statement M
 check-option-spec =
     tie.close
     (tie.spec
-    no-option-requires
-    returns
-    enum-told
-    no-option-requires-2
-    enum-told-2
-    make-cookie-requires
-    checked-requires
-    enum-known-fast
-    cookie-requires
-    check-cookie-requires
-    returns-2
-    returns-3
-    returns-4)
+    (λ c κs. search needs) returns (λ c. search needs) (λ c κs. search needs) (λ c. search needs)
+    (λ c κs. search needs) (λ c κs. search needs) (λ c. search needs) (λ c κs. search needs)
+    (λ c κs. search needs) returns-2 returns-3 returns-4)

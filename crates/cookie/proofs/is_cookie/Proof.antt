@@ -30,15 +30,6 @@ loop-holds c = (omega arith, refl)
 shared-slice-read-if2 : tie.Need-shared-slice-read-if2 Inv-loop μ-loop
 shared-slice-read-if2 c = omega (arith, c .before .before .before .if1 .left)
 
-array-read-if2 : tie.Need-array-read-if2 Inv-loop μ-loop
-array-read-if2 c = search needs
-
-add-i : tie.Need-add-i Inv-loop μ-loop
-add-i c = search needs
-
-loop-less : tie.Need-loop-less Inv-loop μ-loop
-loop-less c = search needs
-
 loop-again : tie.Need-loop-again Inv-loop μ-loop
 loop-again c =
     let given = c .before .before .before .before .before .args .given .now in
@@ -62,13 +53,5 @@ pub is-cookie-spec : {M : Type 1} → statement M
 is-cookie-spec =
     tie.close
     (tie.spec
-    Inv-loop
-    μ-loop
-    returns
-    loop-holds
-    shared-slice-read-if2
-    array-read-if2
-    add-i
-    loop-less
-    loop-again
-    returns-2)
+    Inv-loop μ-loop returns loop-holds shared-slice-read-if2 (λ c. search needs) (λ c. search needs)
+    (λ c. search needs) loop-again returns-2)

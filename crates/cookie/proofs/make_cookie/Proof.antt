@@ -9,14 +9,8 @@ use Rattle.protocol.proofs.Cookie.{cookie-is}
 use Rattle.cookie.proofs.make_cookie.Statement.{statement}
 use Rattle.cookie.proofs.make_cookie.Tie as tie
 
-encrypt-requires : tie.Need-encrypt-requires
-encrypt-requires c κs = search needs
-
-first-eight-requires : tie.Need-first-eight-requires
-first-eight-requires c κs = search needs
-
 returns : tie.Need-returns
 returns c = c .first-eight .ensures ∙ (ap (λ (x : List ℕ). take 8 x) (c .before .encrypt .ensures) ∙ cookie-is _ _)
 
 pub make-cookie-spec : {M : Type 1} → statement M
-make-cookie-spec = tie.close (tie.spec encrypt-requires first-eight-requires returns)
+make-cookie-spec = tie.close (tie.spec (λ c κs. search needs) (λ c κs. search needs) returns)

@@ -11,13 +11,10 @@ returns c =
     let a = c .before .before .args in
     is-over (a .time) (a .x) (a .b) (a .port) (omega arith)
 
-same-name-requires : tie.Need-same-name-requires
-same-name-requires c κs = search needs
-
 returns-2 : tie.Need-returns-2
 returns-2 c =
     let a = c .before .before .before .before .args in
     is-on (a .time) (a .x) (a .b) (a .port) (omega arith) (c .same-name .ensures)
 
 pub is-ban-spec : {M : Type 1} → statement M
-is-ban-spec = tie.close (tie.spec returns same-name-requires returns-2)
+is-ban-spec = tie.close (tie.spec returns (λ c κs. search needs) returns-2)

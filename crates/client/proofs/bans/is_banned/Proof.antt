@@ -5,11 +5,8 @@ use borrow.Author.Needs.{needs}
 use Rattle.client.proofs.bans.is_banned.Statement.{statement}
 use Rattle.client.proofs.bans.is_banned.Tie as tie
 
-ban-place-requires : tie.Need-ban-place-requires
-ban-place-requires c κs = search needs
-
 returns : tie.Need-returns
 returns c = rw (c .ban-place .ensures)
 
 pub is-banned-spec : {M : Type 1} → statement M
-is-banned-spec = tie.close (tie.spec ban-place-requires returns)
+is-banned-spec = tie.close (tie.spec (λ c κs. search needs) returns)

@@ -6,26 +6,17 @@ use borrow.Author.Needs.{needs}
 use Rattle.client.proofs.bans.place_for.Statement.{statement}
 use Rattle.client.proofs.bans.place_for.Tie as tie
 
-ban-place-requires : tie.Need-ban-place-requires
-ban-place-requires c κs = search needs
-
 returns : tie.Need-returns
 returns c =
     let p = c .before in
     let a = p .before .args in
     own-place (a .time) (a .b) (a .port) (a .m .bans) (p .ban-place .ensures) (omega arith)
 
-free-place-requires : tie.Need-free-place-requires
-free-place-requires c κs = search needs
-
 returns-2 : tie.Need-returns-2
 returns-2 c =
     let p = c .before .before .before in
     let a = p .before .args in
     lowest-place (a .time) (a .b) (a .port) (a .m .bans) (p .ban-place .ensures) (omega arith) (c .before .free-place .ensures) (omega arith)
-
-first-to-end-requires : tie.Need-first-to-end-requires
-first-to-end-requires c κs = search needs
 
 returns-3 : tie.Need-returns-3
 returns-3 c =
@@ -37,9 +28,4 @@ pub place-for-spec : {M : Type 1} → statement M
 place-for-spec =
     tie.close
     (tie.spec
-    ban-place-requires
-    returns
-    free-place-requires
-    returns-2
-    first-to-end-requires
-    returns-3)
+    (λ c κs. search needs) returns (λ c κs. search needs) returns-2 (λ c κs. search needs) returns-3)

@@ -11,18 +11,6 @@ use borrow.Author.Needs.{needs}
 use Rattle.client.proofs.bans.set_ban.Statement.{statement}
 use Rattle.client.proofs.bans.set_ban.Tie as tie
 
-place-for-requires : tie.Need-place-for-requires
-place-for-requires c κs = search needs
-
-add-t10 : tie.Need-add-t10
-add-t10 c = search needs
-
-mul-x : tie.Need-mul-x
-mul-x c = search needs
-
-element-set-from-x : tie.Need-element-set-from-x
-element-set-from-x c = search needs
-
 returns : tie.Need-returns
 unfolding addBan
 returns c =
@@ -38,4 +26,6 @@ returns-2 c =
 
 pub set-ban-spec : {M : Type 1} → statement M
 set-ban-spec =
-    tie.close (tie.spec place-for-requires add-t10 mul-x element-set-from-x returns returns-2)
+    tie.close
+    (tie.spec
+    (λ c κs. search needs) (λ c. search needs) (λ c. search needs) (λ c. search needs) returns returns-2)

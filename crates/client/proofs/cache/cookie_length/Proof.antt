@@ -5,9 +5,6 @@ use borrow.Author.Needs.{needs}
 use Rattle.client.proofs.cache.cookie_length.Statement.{statement}
 use Rattle.client.proofs.cache.cookie_length.Tie as tie
 
-is-cookie-length-requires : tie.Need-is-cookie-length-requires
-is-cookie-length-requires c κs = search needs
-
 returns : tie.Need-returns
 returns c = cookie-kept (c .before .before .args .e) (c .before .is-cookie-length .ensures) (c .if1 .taken)
 
@@ -15,4 +12,4 @@ returns-2 : tie.Need-returns-2
 returns-2 c = cookie-left (c .before .before .args .e) (c .before .is-cookie-length .ensures) (c .if1 .left)
 
 pub cookie-length-spec : {M : Type 1} → statement M
-cookie-length-spec = tie.close (tie.spec is-cookie-length-requires returns returns-2)
+cookie-length-spec = tie.close (tie.spec (λ c κs. search needs) returns returns-2)

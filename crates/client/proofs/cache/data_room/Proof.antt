@@ -7,15 +7,6 @@ use borrow.Author.Needs.{needs}
 use Rattle.client.proofs.cache.data_room.Statement.{statement}
 use Rattle.client.proofs.cache.data_room.Tie as tie
 
-default-mss-requires : tie.Need-default-mss-requires
-default-mss-requires c κs = search needs
-
-mss-or-requires : tie.Need-mss-or-requires
-mss-or-requires c κs = search needs
-
-most-data-requires : tie.Need-most-data-requires
-most-data-requires c κs = search needs
-
 returns : tie.Need-returns
 returns c = rw (sym (c .before .before .before .default-mss .ensures), sym (c .before .before .mss-or .ensures), sym (c .before .most-data .ensures)) (sym (min-eq-left (omega arith)))
 
@@ -24,4 +15,4 @@ returns-2 c = rw (sym (c .before .before .before .default-mss .ensures), sym (c 
 
 pub data-room-spec : {M : Type 1} → statement M
 data-room-spec =
-    tie.close (tie.spec default-mss-requires mss-or-requires most-data-requires returns returns-2)
+    tie.close (tie.spec (λ c κs. search needs) (λ c κs. search needs) (λ c κs. search needs) returns returns-2)

@@ -10,15 +10,6 @@ use borrow.Author.Needs.{needs}
 use Rattle.client.proofs.cache.entry_for.Statement.{statement}
 use Rattle.client.proofs.cache.entry_for.Tie as tie
 
-place-of-requires : tie.Need-place-of-requires
-place-of-requires c κs = search needs
-
-mul-result : tie.Need-mul-result
-mul-result c = search needs
-
-element-copy-out-result : tie.Need-element-copy-out-result
-element-copy-out-result c = search needs
-
 returns : tie.Need-returns
 returns c =
     let m = c .before .before .before .args .t1 in
@@ -26,9 +17,6 @@ returns c =
     let i = c .before .before .place-of .result in
     let h : i < length (m .cache) = omega arith in
     present (m .cache) i _ unusedEntry h ∙ ap (λ (k : ℕ). getD (m .cache) k unusedEntry) (c .before .before .place-of .ensures)
-
-unused-entry-requires : tie.Need-unused-entry-requires
-unused-entry-requires c κs = search needs
 
 returns-2 : tie.Need-returns-2
 returns-2 c =
@@ -40,9 +28,4 @@ pub entry-for-spec : {M : Type 1} → statement M
 entry-for-spec =
     tie.close
     (tie.spec
-    place-of-requires
-    mul-result
-    element-copy-out-result
-    returns
-    unused-entry-requires
-    returns-2)
+    (λ c κs. search needs) (λ c. search needs) (λ c. search needs) returns (λ c κs. search needs) returns-2)

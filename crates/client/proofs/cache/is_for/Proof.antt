@@ -10,12 +10,9 @@ returns : tie.Need-returns
 unfolding isFor
 returns c = rw (not-true (c .before .before .args .e .used) (c .if1 .taken))
 
-same-block-requires : tie.Need-same-block-requires
-same-block-requires c κs = search needs
-
 returns-2 : tie.Need-returns-2
 unfolding isFor
 returns-2 c = rw (not-false (c .before .before .before .before .args .e .used) (c .before .before .if1 .left)) (c .same-block .ensures)
 
 pub is-for-spec : {M : Type 1} → statement M
-is-for-spec = tie.close (tie.spec returns same-block-requires returns-2)
+is-for-spec = tie.close (tie.spec returns (λ c κs. search needs) returns-2)

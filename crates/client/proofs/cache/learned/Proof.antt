@@ -6,17 +6,11 @@ use borrow.Author.Needs.{needs}
 use Rattle.client.proofs.cache.learned.Statement.{statement}
 use Rattle.client.proofs.cache.learned.Tie as tie
 
-first-mss-requires : tie.Need-first-mss-requires
-first-mss-requires c κs = search needs
-
 returns : tie.Need-returns
 returns c =
     let p = c .before .before in
     let a = p .before .before .args in
     learned-none (a .old) (a .b) (a .cookie .now) (a .mss) (p .first-mss .ensures) (c .before .if1 .taken)
-
-block-of-requires : tie.Need-block-of-requires
-block-of-requires c κs = search needs
 
 returns-2 : tie.Need-returns-2
 returns-2 c =
@@ -26,4 +20,4 @@ returns-2 c =
     learned-cookie (a .old) (a .b) (a .cookie .now) (a .mss) (p .first-mss .ensures) (c .before .if1 .left) (kept (a .cookie .now) (s .pre) (c .block-of .ensures))
 
 pub learned-spec : {M : Type 1} → statement M
-learned-spec = tie.close (tie.spec first-mss-requires returns block-of-requires returns-2)
+learned-spec = tie.close (tie.spec (λ c κs. search needs) returns (λ c κs. search needs) returns-2)

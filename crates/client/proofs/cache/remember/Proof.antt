@@ -26,34 +26,10 @@ Inv-loop m₀ place end carried₀ i₀ m carried i = (i ≤ end) × (end ≤ 32
 abbrev μ-loop : tie.MeasureT-loop
 μ-loop m₀ place end carried₀ i₀ m carried i = end - i
 
-place-of-requires : tie.Need-place-of-requires Inv-loop μ-loop
-place-of-requires c κs = search needs
-
-add-end : tie.Need-add-end Inv-loop μ-loop
-add-end c = search needs
-
 loop-holds : tie.Need-loop-holds Inv-loop μ-loop
 loop-holds c =
     let place = c .before .place-of .result in
     (omega arith, ⊎-elim (λ w. omega (arith, w .1)) (λ w. omega (arith, w .1)) (c .if1 .came), refl, refl)
-
-mul-was : tie.Need-mul-was Inv-loop μ-loop
-mul-was c = search needs
-
-element-copy-out-was : tie.Need-element-copy-out-was Inv-loop μ-loop
-element-copy-out-was c = search needs
-
-mul-carried : tie.Need-mul-carried Inv-loop μ-loop
-mul-carried c = search needs
-
-element-set-from-carried : tie.Need-element-set-from-carried Inv-loop μ-loop
-element-set-from-carried c = search needs
-
-add-i : tie.Need-add-i Inv-loop μ-loop
-add-i c = search needs
-
-loop-less : tie.Need-loop-less Inv-loop μ-loop
-loop-less c = search needs
 
 loop-again : tie.Need-loop-again Inv-loop μ-loop
 loop-again c =
@@ -86,16 +62,5 @@ pub remember-spec : {M : Type 1} → statement M
 remember-spec =
     tie.close
     (tie.spec
-    Inv-loop
-    μ-loop
-    place-of-requires
-    add-end
-    loop-holds
-    mul-was
-    element-copy-out-was
-    mul-carried
-    element-set-from-carried
-    add-i
-    loop-less
-    loop-again
-    returns)
+    Inv-loop μ-loop (λ c κs. search needs) (λ c. search needs) loop-holds (λ c. search needs) (λ c. search needs)
+    (λ c. search needs) (λ c. search needs) (λ c. search needs) (λ c. search needs) loop-again returns)

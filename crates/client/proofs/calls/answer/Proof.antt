@@ -71,33 +71,6 @@ module _ (c : tie.After-cookie) where
       × (parsed (area c) .segment-options .result .mss ≡ mssIn (start named-at .args .seg .now))
   brings = brought-is (start named-at .args .seg .now) (parsed (area c) .segment-options .ensures) (area c .option-area .ensures) (c .cookie .ensures)
 
-at-time-requires : tie.Need-at-time-requires
-at-time-requires c κs = search needs
-
-check-answer-requires : tie.Need-check-answer-requires
-check-answer-requires c κs = search needs
-
-enum-known-why : tie.Need-enum-known-why
-enum-known-why c = search needs
-
-refused-requires : tie.Need-refused-requires
-refused-requires c κs = search needs
-
-enum-known-n : tie.Need-enum-known-n
-enum-known-n c = search needs
-
-block-of-requires : tie.Need-block-of-requires
-block-of-requires c κs = search needs
-
-segment-options-requires : tie.Need-segment-options-requires
-segment-options-requires c κs = search needs
-
-option-area-requires : tie.Need-option-area-requires
-option-area-requires c κs = search needs
-
-cookie-requires : tie.Need-cookie-requires
-cookie-requires c κs = search needs
-
 learn-requires : tie.Need-learn-requires
 learn-requires c κs = rw (brings c .0) (brought-most (start (named-at c) .args .seg .now))
 
@@ -126,16 +99,6 @@ pub answer-spec : {M : Type 1} → statement M
 answer-spec =
     tie.close
     (tie.spec
-    at-time-requires
-    check-answer-requires
-    enum-known-why
-    refused-requires
-    enum-known-n
-    block-of-requires
-    segment-options-requires
-    option-area-requires
-    cookie-requires
-    learn-requires
-    ban-if-negative-requires
-    returns
-    returns-2)
+    (λ c κs. search needs) (λ c κs. search needs) (λ c. search needs) (λ c κs. search needs) (λ c. search needs)
+    (λ c κs. search needs) (λ c κs. search needs) (λ c κs. search needs) (λ c κs. search needs) learn-requires
+    ban-if-negative-requires returns returns-2)

@@ -15,9 +15,6 @@ returns-2 c =
     let a = c .before .before .before .args in
     some-acknowledged (a .m) (a .time) (a .b) (a .a .dest) (a .a .sent) (a .acknowledged) (c .before .if1 .left) (c .if2 .taken)
 
-set-ban-requires : tie.Need-set-ban-requires
-set-ban-requires c κs = search needs
-
 returns-3 : tie.Need-returns-3
 returns-3 c =
     let p = c .before .before in
@@ -25,4 +22,4 @@ returns-3 c =
     none-acknowledged (a .m) (a .time) (a .b) (a .a .dest) (a .a .sent) (a .acknowledged) (p .if1 .left) (c .before .if2 .left) (c .set-ban .ensures)
 
 pub ban-if-negative-spec : {M : Type 1} → statement M
-ban-if-negative-spec = tie.close (tie.spec returns returns-2 set-ban-requires returns-3)
+ban-if-negative-spec = tie.close (tie.spec returns returns-2 (λ c κs. search needs) returns-3)

@@ -85,38 +85,11 @@ module _ (c : tie.After-cookie-length) where
       let n : length (stored .cookie) ≡ 16 = search needs in
       omega (arith, cookie-most stored, c .cookie-length .ensures)
 
-check-open-requires : tie.Need-check-open-requires
-check-open-requires c κs = search needs
-
-enum-known-why : tie.Need-enum-known-why
-enum-known-why c = search needs
-
-refused-requires : tie.Need-refused-requires
-refused-requires c κs = search needs
-
-enum-told : tie.Need-enum-told
-enum-told c = search needs
-
-block-of-requires : tie.Need-block-of-requires
-block-of-requires c κs = search needs
-
-is-banned-requires : tie.Need-is-banned-requires
-is-banned-requires c κs = search needs
-
-entry-for-requires : tie.Need-entry-for-requires
-entry-for-requires c κs = search needs
-
-sent-with-requires : tie.Need-sent-with-requires
-sent-with-requires c κs = search needs
-
 cast-t22 : tie.Need-cast-t22
 cast-t22 c =
     let p = named-at (c .before) in
     let a = start p .args in
     omega (arith, open-mss (a .m) (a .time) (a .own .now) (a .server .now) (a .o) (a .offered .now) (a .out .now) (clear (told p)))
-
-cookie-length-requires : tie.Need-cookie-length-requires
-cookie-length-requires c κs = search needs
 
 array-share-prefix-cookie : tie.Need-array-share-prefix-cookie
 array-share-prefix-cookie c = omega (arith, fits (sized c))
@@ -129,12 +102,6 @@ slice-aggregate-write-opening-2 c =
     let p = sent (sized (c .before .before)) in
     sym (length-take-le _ (start (named-at p) .args .offered .now) (p .sent-with .ensures .1 .0))
 
-write-opening-requires : tie.Need-write-opening-requires
-write-opening-requires c κs = search needs
-
-at-time-requires : tie.Need-at-time-requires
-at-time-requires c κs = search needs
-
 cast-t31 : tie.Need-cast-t31
 cast-t31 c = omega (arith, sent (sized (lent (written c))) .sent-with .ensures .1 .1)
 
@@ -143,9 +110,6 @@ returns c =
     let p = c .before .before .before .before in
     let a = entry p .args in
     open-refused (a .m) (a .time) (a .own .now) (a .server .now) (a .o) (a .offered .now) (a .out .now) (c .refused .ensures) (sym (p .check-open .ensures) ∙ c .before .before .why .given .1)
-
-same-length : tie.Need-same-length
-same-length c = search needs
 
 returns-2 : tie.Need-returns-2
 returns-2 c =
@@ -162,22 +126,7 @@ pub connect-spec : {M : Type 1} → statement M
 connect-spec =
     tie.close
     (tie.spec
-    check-open-requires
-    enum-known-why
-    refused-requires
-    enum-told
-    block-of-requires
-    is-banned-requires
-    entry-for-requires
-    sent-with-requires
-    cast-t22
-    cookie-length-requires
-    array-share-prefix-cookie
-    slice-aggregate-write-opening
-    slice-aggregate-write-opening-2
-    write-opening-requires
-    at-time-requires
-    cast-t31
-    returns
-    same-length
-    returns-2)
+    (λ c κs. search needs) (λ c. search needs) (λ c κs. search needs) (λ c. search needs) (λ c κs. search needs)
+    (λ c κs. search needs) (λ c κs. search needs) (λ c κs. search needs) cast-t22 (λ c κs. search needs)
+    array-share-prefix-cookie slice-aggregate-write-opening slice-aggregate-write-opening-2 (λ c κs. search needs)
+    (λ c κs. search needs) cast-t31 returns (λ c. search needs) returns-2)

@@ -11,22 +11,10 @@ use borrow.Author.Needs.{needs}
 use Rattle.client.proofs.calls.learn.Statement.{statement}
 use Rattle.client.proofs.calls.learn.Tie as tie
 
-is-given-requires : tie.Need-is-given-requires
-is-given-requires c κs = search needs
-
 returns : tie.Need-returns
 returns c =
     let a = c .before .before .before .before .args in
     ap (λ (s : List Entry). withCache (a .m) s) (nothing-brought (a .b) (a .cookie .now) (a .mss) (a .m .cache) (c .before .before .if1 .taken) (sym (c .before .is-given .ensures) ∙ not-true _ (c .if2 .taken)))
-
-entry-for-requires : tie.Need-entry-for-requires
-entry-for-requires c κs = search needs
-
-learned-requires : tie.Need-learned-requires
-learned-requires c κs = search needs
-
-remember-requires : tie.Need-remember-requires
-remember-requires c κs = search needs
 
 returns-2 : tie.Need-returns-2
 returns-2 c =
@@ -41,9 +29,4 @@ pub learn-spec : {M : Type 1} → statement M
 learn-spec =
     tie.close
     (tie.spec
-    is-given-requires
-    returns
-    entry-for-requires
-    learned-requires
-    remember-requires
-    returns-2)
+    (λ c κs. search needs) returns (λ c κs. search needs) (λ c κs. search needs) (λ c κs. search needs) returns-2)

@@ -11,20 +11,11 @@ returns c =
     let a = c .before .args in
     with-most (a .family) (a .banned) (a .e) (a .offered) (rw (c .if1 .taken))
 
-cookie-length-requires : tie.Need-cookie-length-requires
-cookie-length-requires c κs = search needs
-
 returns-2 : tie.Need-returns-2
 returns-2 c =
     let p = c .before in
     let a = p .before .before .args in
     with-most (a .family) (a .banned) (a .e) (a .offered) (sent-none (a .family) (a .e) (a .offered) (p .before .if1 .left) (p .cookie-length .ensures) (c .if2 .taken))
-
-data-room-requires : tie.Need-data-room-requires
-data-room-requires c κs = search needs
-
-cast-most : tie.Need-cast-most
-cast-most c = search needs
 
 returns-3 : tie.Need-returns-3
 returns-3 c =
@@ -44,10 +35,4 @@ pub sent-with-spec : {M : Type 1} → statement M
 sent-with-spec =
     tie.close
     (tie.spec
-    returns
-    cookie-length-requires
-    returns-2
-    data-room-requires
-    cast-most
-    returns-3
-    returns-4)
+    returns (λ c κs. search needs) returns-2 (λ c κs. search needs) (λ c. search needs) returns-3 returns-4)

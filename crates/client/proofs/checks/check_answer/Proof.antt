@@ -7,18 +7,6 @@ use borrow.Author.Needs.{needs}
 use Rattle.client.proofs.checks.check_answer.Statement.{statement}
 use Rattle.client.proofs.checks.check_answer.Tie as tie
 
-check-pair-requires : tie.Need-check-pair-requires
-check-pair-requires c κs = search needs
-
-enum-known-why : tie.Need-enum-known-why
-enum-known-why c = search needs
-
-enum-told : tie.Need-enum-told
-enum-told c = search needs
-
-check-segment-requires : tie.Need-check-segment-requires
-check-segment-requires c κs = search needs
-
 returns : tie.Need-returns
 returns c =
     let a = c .before .before .before .before .before .before .before .args in
@@ -33,9 +21,4 @@ pub check-answer-spec : {M : Type 1} → statement M
 check-answer-spec =
     tie.close
     (tie.spec
-    check-pair-requires
-    enum-known-why
-    enum-told
-    check-segment-requires
-    returns
-    returns-2)
+    (λ c κs. search needs) (λ c. search needs) (λ c. search needs) (λ c κs. search needs) returns returns-2)

@@ -9,22 +9,10 @@ use borrow.Author.Needs.{needs}
 use Rattle.client.proofs.checks.check_open.Statement.{statement}
 use Rattle.client.proofs.checks.check_open.Tie as tie
 
-check-pair-requires : tie.Need-check-pair-requires
-check-pair-requires c κs = search needs
-
-enum-known-why : tie.Need-enum-known-why
-enum-known-why c = search needs
-
-enum-told : tie.Need-enum-told
-enum-told c = search needs
-
 returns : tie.Need-returns
 returns c =
     let a = c .before .before .before .before .before .before .args in
     sym (open-short (a .started) (isUntimely (a .clock) (a .time)) (a .family) (a .own .now) (a .server .now) (a .mss) (a .out-len) (sym (c .before .before .before .check-pair .ensures) ∙ c .before .enum-told .given .1) (omega arith))
-
-is-mss-requires : tie.Need-is-mss-requires
-is-mss-requires c κs = search needs
 
 returns-2 : tie.Need-returns-2
 returns-2 c =
@@ -45,11 +33,5 @@ pub check-open-spec : {M : Type 1} → statement M
 check-open-spec =
     tie.close
     (tie.spec
-    check-pair-requires
-    enum-known-why
-    enum-told
-    returns
-    is-mss-requires
-    returns-2
-    returns-3
-    returns-4)
+    (λ c κs. search needs) (λ c. search needs) (λ c. search needs) returns (λ c κs. search needs) returns-2
+    returns-3 returns-4)

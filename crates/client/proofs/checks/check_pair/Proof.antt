@@ -7,18 +7,6 @@ use borrow.Author.Needs.{needs}
 use Rattle.client.proofs.checks.check_pair.Statement.{statement}
 use Rattle.client.proofs.checks.check_pair.Tie as tie
 
-check-name-requires : tie.Need-check-name-requires
-check-name-requires c κs = search needs
-
-enum-known-why : tie.Need-enum-known-why
-enum-known-why c = search needs
-
-enum-told : tie.Need-enum-told
-enum-told c = search needs
-
-is-address-requires : tie.Need-is-address-requires
-is-address-requires c κs = search needs
-
 returns : tie.Need-returns
 returns c =
     let a = c .before .before .before .before .before .before .args in
@@ -38,10 +26,5 @@ pub check-pair-spec : {M : Type 1} → statement M
 check-pair-spec =
     tie.close
     (tie.spec
-    check-name-requires
-    enum-known-why
-    enum-told
-    is-address-requires
-    returns
-    returns-2
+    (λ c κs. search needs) (λ c. search needs) (λ c. search needs) (λ c κs. search needs) returns returns-2
     returns-3)

@@ -7,9 +7,6 @@ use borrow.Author.Needs.{needs}
 use Rattle.client.proofs.checks.check_reply.Statement.{statement}
 use Rattle.client.proofs.checks.check_reply.Tie as tie
 
-is-syn-ack-requires : tie.Need-is-syn-ack-requires
-is-syn-ack-requires c κs = search needs
-
 returns : tie.Need-returns
 returns c =
     let a = c .before .before .args in
@@ -19,9 +16,6 @@ returns-2 : tie.Need-returns-2
 returns-2 c =
     let a = c .before .before .before .args in
     dropped-range (a .a) (a .h) (c .before .before .is-syn-ack .ensures) (not-false _ (c .before .if1 .left)) (omega arith)
-
-acknowledged-bytes-requires : tie.Need-acknowledged-bytes-requires
-acknowledged-bytes-requires c κs = search needs
 
 returns-3 : tie.Need-returns-3
 returns-3 c =
@@ -38,10 +32,4 @@ returns-4 c =
 pub check-reply-spec : {M : Type 1} → statement M
 check-reply-spec =
     tie.close
-    (tie.spec
-    is-syn-ack-requires
-    returns
-    returns-2
-    acknowledged-bytes-requires
-    returns-3
-    returns-4)
+    (tie.spec (λ c κs. search needs) returns returns-2 (λ c κs. search needs) returns-3 returns-4)

@@ -7,33 +7,15 @@ use borrow.Author.Needs.{needs}
 use Rattle.client.proofs.checks.check_segment.Statement.{statement}
 use Rattle.client.proofs.checks.check_segment.Tie as tie
 
-read-header-requires : tie.Need-read-header-requires
-read-header-requires c κs = search needs
-
-enum-told : tie.Need-enum-told
-enum-told c = search needs
-
-enum-known-h : tie.Need-enum-known-h
-enum-known-h c = search needs
-
-is-checksum-right-requires : tie.Need-is-checksum-right-requires
-is-checksum-right-requires c κs = search needs
-
 returns : tie.Need-returns
 returns c =
     let a = c .before .before .before .before .before .before .before .before .before .args in
     dropped-sum (a .own .now) (a .server .now) (a .a) (a .seg .now) (sym (c .before .before .before .before .before .read-header .ensures) ∙ c .before .before .before .h .given .1) (c .before .is-checksum-right .ensures) (not-true _ (c .if1 .taken))
 
-is-between-requires : tie.Need-is-between-requires
-is-between-requires c κs = search needs
-
 returns-2 : tie.Need-returns-2
 returns-2 c =
     let a = c .before .before .before .before .before .before .before .before .before .before .before .args in
     dropped-port (a .own .now) (a .server .now) (a .a) (a .seg .now) (sym (c .before .before .before .before .before .before .before .read-header .ensures) ∙ c .before .before .before .before .before .h .given .1) (c .before .before .before .is-checksum-right .ensures) (not-false _ (c .before .before .if1 .left)) (c .before .is-between .ensures) (not-true _ (c .if2 .taken))
-
-check-reply-requires : tie.Need-check-reply-requires
-check-reply-requires c κs = search needs
 
 returns-3 : tie.Need-returns-3
 returns-3 c =
@@ -49,13 +31,5 @@ pub check-segment-spec : {M : Type 1} → statement M
 check-segment-spec =
     tie.close
     (tie.spec
-    read-header-requires
-    enum-told
-    enum-known-h
-    is-checksum-right-requires
-    returns
-    is-between-requires
-    returns-2
-    check-reply-requires
-    returns-3
-    returns-4)
+    (λ c κs. search needs) (λ c. search needs) (λ c. search needs) (λ c κs. search needs) returns
+    (λ c κs. search needs) returns-2 (λ c κs. search needs) returns-3 returns-4)

@@ -9,47 +9,8 @@ use borrow.Author.Needs.{needs}
 use Rattle.decisions.proofs.action.act.Statement.{statement}
 use Rattle.decisions.proofs.action.act.Tie as tie
 
-enum-told : tie.Need-enum-told
-enum-told c = search needs
-
-is-free-requires : tie.Need-is-free-requires
-is-free-requires c κs = search needs
-
-open-new-requires : tie.Need-open-new-requires
-open-new-requires c κs = search needs
-
 returns : tie.Need-returns
 returns c = acts-as _ _ _ _ _ _ _ _ _ (rw (c .before .before .before .enum-told .given .1, sym (c .before .before .is-free .ensures) ∙ c .before .if1 .taken)) (c .open-new .ensures)
-
-without-cookie-requires : tie.Need-without-cookie-requires
-without-cookie-requires c κs = search needs
-
-enum-told-2 : tie.Need-enum-told-2
-enum-told-2 c = search needs
-
-with-status-requires : tie.Need-with-status-requires
-with-status-requires c κs = search needs
-
-without-cookie-requires-2 : tie.Need-without-cookie-requires-2
-without-cookie-requires-2 c κs = search needs
-
-enum-told-3 : tie.Need-enum-told-3
-enum-told-3 c = search needs
-
-after-reset-requires : tie.Need-after-reset-requires
-after-reset-requires c κs = search needs
-
-with-status-requires-2 : tie.Need-with-status-requires-2
-with-status-requires-2 c κs = search needs
-
-without-cookie-requires-3 : tie.Need-without-cookie-requires-3
-without-cookie-requires-3 c κs = search needs
-
-enum-told-4 : tie.Need-enum-told-4
-enum-told-4 c = search needs
-
-without-cookie-requires-4 : tie.Need-without-cookie-requires-4
-without-cookie-requires-4 c κs = search needs
 
 returns-2 : tie.Need-returns-2
 returns-2 c =
@@ -80,21 +41,7 @@ pub act-spec : {M : Type 1} → statement M
 act-spec =
     tie.close
     (tie.spec
-    enum-told
-    is-free-requires
-    open-new-requires
-    returns
-    without-cookie-requires
-    enum-told-2
-    with-status-requires
-    without-cookie-requires-2
-    enum-told-3
-    after-reset-requires
-    with-status-requires-2
-    without-cookie-requires-3
-    enum-told-4
-    without-cookie-requires-4
-    returns-2
-    returns-3
-    returns-4
-    returns-5)
+    (λ c. search needs) (λ c κs. search needs) (λ c κs. search needs) returns (λ c κs. search needs)
+    (λ c. search needs) (λ c κs. search needs) (λ c κs. search needs) (λ c. search needs) (λ c κs. search needs)
+    (λ c κs. search needs) (λ c κs. search needs) (λ c. search needs) (λ c κs. search needs) returns-2 returns-3
+    returns-4 returns-5)

@@ -6,19 +6,10 @@ use borrow.Author.Needs.{needs}
 use Rattle.decisions.proofs.checks.admits_completion.Statement.{statement}
 use Rattle.decisions.proofs.checks.admits_completion.Tie as tie
 
-expected-of-requires : tie.Need-expected-of-requires
-expected-of-requires c κs = search needs
-
-in-window-requires : tie.Need-in-window-requires
-in-window-requires c κs = search needs
-
 returns : tie.Need-returns
 returns c =
     let a = c .before .before .before .args in
     not-completed (a .s) (a .h) (c .before .before .expected-of .ensures) (c .before .in-window .ensures) (not-true _ (c .if1 .taken))
-
-next-after-requires : tie.Need-next-after-requires
-next-after-requires c κs = search needs
 
 returns-2 : tie.Need-returns-2
 returns-2 c =
@@ -28,4 +19,4 @@ returns-2 c =
 pub admits-completion-spec : {M : Type 1} → statement M
 admits-completion-spec =
     tie.close
-    (tie.spec expected-of-requires in-window-requires returns next-after-requires returns-2)
+    (tie.spec (λ c κs. search needs) (λ c κs. search needs) returns (λ c κs. search needs) returns-2)

@@ -8,12 +8,9 @@ use borrow.Author.Needs.{needs}
 use Rattle.decisions.proofs.checks.admits_reset.Statement.{statement}
 use Rattle.decisions.proofs.checks.admits_reset.Tie as tie
 
-expected-of-requires : tie.Need-expected-of-requires
-expected-of-requires c κs = search needs
-
 returns : tie.Need-returns
 unfolding resets
 returns c = ap (λ (n : ℕ). eqb (c .before .before .args .h .seq) n) (c .before .expected-of .ensures)
 
 pub admits-reset-spec : {M : Type 1} → statement M
-admits-reset-spec = tie.close (tie.spec expected-of-requires returns)
+admits-reset-spec = tie.close (tie.spec (λ c κs. search needs) returns)

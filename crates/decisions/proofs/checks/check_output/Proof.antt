@@ -8,15 +8,6 @@ use borrow.Author.Needs.{needs}
 use Rattle.decisions.proofs.checks.check_output.Statement.{statement}
 use Rattle.decisions.proofs.checks.check_output.Tie as tie
 
-check-name-requires : tie.Need-check-name-requires
-check-name-requires c κs = search needs
-
-enum-known-why : tie.Need-enum-known-why
-enum-known-why c = search needs
-
-enum-told : tie.Need-enum-told
-enum-told c = search needs
-
 returns : tie.Need-returns
 returns c =
     let a = c .before .before .before .before .before .args in
@@ -34,4 +25,6 @@ returns-3 c =
 
 pub check-output-spec : {M : Type 1} → statement M
 check-output-spec =
-    tie.close (tie.spec check-name-requires enum-known-why enum-told returns returns-2 returns-3)
+    tie.close
+    (tie.spec
+    (λ c κs. search needs) (λ c. search needs) (λ c. search needs) returns returns-2 returns-3)

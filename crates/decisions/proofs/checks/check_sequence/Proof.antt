@@ -6,9 +6,6 @@ use borrow.Author.Needs.{needs}
 use Rattle.decisions.proofs.checks.check_sequence.Statement.{statement}
 use Rattle.decisions.proofs.checks.check_sequence.Tie as tie
 
-is-waiting-requires : tie.Need-is-waiting-requires
-is-waiting-requires c κs = search needs
-
 returns : tie.Need-returns
 returns c = simp (sym (c .before .is-waiting .ensures) ∙ not-true _ (c .if1 .taken)) refl
 
@@ -19,4 +16,4 @@ returns-3 : tie.Need-returns-3
 returns-3 c = simp (sym (c .before .before .is-waiting .ensures) ∙ not-false _ (c .before .if1 .left), c .if2 .left) refl
 
 pub check-sequence-spec : {M : Type 1} → statement M
-check-sequence-spec = tie.close (tie.spec is-waiting-requires returns returns-2 returns-3)
+check-sequence-spec = tie.close (tie.spec (λ c κs. search needs) returns returns-2 returns-3)

@@ -5,17 +5,11 @@ use borrow.Author.Needs.{needs}
 use Rattle.decisions.proofs.checks.check_syn.Statement.{statement}
 use Rattle.decisions.proofs.checks.check_syn.Tie as tie
 
-is-free-requires : tie.Need-is-free-requires
-is-free-requires c κs = search needs
-
 returns : tie.Need-returns
 returns c = simp (sym (c .before .before .is-free .ensures) ∙ c .before .if1 .taken, c .if2 .taken) refl
 
 returns-2 : tie.Need-returns-2
 returns-2 c = simp (sym (c .before .before .is-free .ensures) ∙ c .before .if1 .taken, c .if2 .left) refl
-
-is-repeat-requires : tie.Need-is-repeat-requires
-is-repeat-requires c κs = search needs
 
 returns-3 : tie.Need-returns-3
 returns-3 c = simp (sym (c .before .before .before .is-free .ensures) ∙ c .before .before .if1 .left, sym (c .before .is-repeat .ensures) ∙ c .if3 .taken) refl
@@ -25,4 +19,4 @@ returns-4 c = simp (sym (c .before .before .before .is-free .ensures) ∙ c .bef
 
 pub check-syn-spec : {M : Type 1} → statement M
 check-syn-spec =
-    tie.close (tie.spec is-free-requires returns returns-2 is-repeat-requires returns-3 returns-4)
+    tie.close (tie.spec (λ c κs. search needs) returns returns-2 (λ c κs. search needs) returns-3 returns-4)

@@ -7,9 +7,6 @@ use borrow.Author.Needs.{needs}
 use Rattle.decisions.proofs.checks.is_repeat.Statement.{statement}
 use Rattle.decisions.proofs.checks.is_repeat.Tie as tie
 
-is-waiting-requires : tie.Need-is-waiting-requires
-is-waiting-requires c κs = search needs
-
 returns : tie.Need-returns
 unfolding repeats
 returns c = simp (sym (c .before .is-waiting .ensures) ∙ not-true _ (c .if1 .taken)) refl
@@ -19,4 +16,4 @@ unfolding repeats
 returns-2 c = simp (sym (c .before .before .before .is-waiting .ensures) ∙ not-false _ (c .before .before .if1 .left)) refl
 
 pub is-repeat-spec : {M : Type 1} → statement M
-is-repeat-spec = tie.close (tie.spec is-waiting-requires returns returns-2)
+is-repeat-spec = tie.close (tie.spec (λ c κs. search needs) returns returns-2)

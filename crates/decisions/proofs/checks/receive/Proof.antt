@@ -80,27 +80,6 @@ module _ (c : tie.After-is-checksum-right) where
         let a = from .args in
         read (a .local) (late from) (a .src .now) (a .seg .now) (a .out-len) (clear (told formed)) (shape formed) (c .before .before .size-of .ensures) (c .is-checksum-right .ensures) k d
 
-check-output-requires : tie.Need-check-output-requires
-check-output-requires c κs = search needs
-
-enum-known-why : tie.Need-enum-known-why
-enum-known-why c = search needs
-
-enum-told : tie.Need-enum-told
-enum-told c = search needs
-
-read-header-requires : tie.Need-read-header-requires
-read-header-requires c κs = search needs
-
-enum-told-2 : tie.Need-enum-told-2
-enum-told-2 c = search needs
-
-enum-known-h : tie.Need-enum-known-h
-enum-known-h c = search needs
-
-size-of-requires : tie.Need-size-of-requires
-size-of-requires c κs = search needs
-
 array-share-prefix-own : tie.Need-array-share-prefix-own
 array-share-prefix-own c =
     let h = began (told (sized c)) .args .local in
@@ -110,9 +89,6 @@ slice-aggregate-is-checksum-right : tie.Need-slice-aggregate-is-checksum-right
 slice-aggregate-is-checksum-right c =
     let h = began (told (sized (c .before))) .args .local in
     own-part (h .family) (h .own) (c .before .size-of .ensures) (search needs)
-
-is-checksum-right-requires : tie.Need-is-checksum-right-requires
-is-checksum-right-requires c κs = search needs
 
 returns : tie.Need-returns
 returns c = sum-wrong (c .before) (not-true _ (c .if1 .taken))
@@ -143,18 +119,6 @@ pub receive-spec : {M : Type 1} → statement M
 receive-spec =
     tie.close
     (tie.spec
-    check-output-requires
-    enum-known-why
-    enum-told
-    read-header-requires
-    enum-told-2
-    enum-known-h
-    size-of-requires
-    array-share-prefix-own
-    slice-aggregate-is-checksum-right
-    is-checksum-right-requires
-    returns
-    returns-2
-    returns-3
-    returns-4
-    returns-5)
+    (λ c κs. search needs) (λ c. search needs) (λ c. search needs) (λ c κs. search needs) (λ c. search needs)
+    (λ c. search needs) (λ c κs. search needs) array-share-prefix-own slice-aggregate-is-checksum-right
+    (λ c κs. search needs) returns returns-2 returns-3 returns-4 returns-5)

@@ -13,9 +13,6 @@ slice-aggregate-copy c =
     let cut : Cut a n = ⊎-elim (λ w. cut-long a n (w .0 .taken) (w .1)) (λ w. cut-short a n (w .0 .left) (w .1)) (c .before .if1 .came) in
     cut-count a n cut
 
-slice-aggregate-copy-2 : tie.Need-slice-aggregate-copy-2
-slice-aggregate-copy-2 c = search needs
-
 copy-requires : tie.Need-copy-requires
 copy-requires c κs =
     let a = c .before .before .before .before .args .addr .now in
@@ -31,4 +28,4 @@ returns c =
     cut-block a n cut (c .before .copy .ensures .1)
 
 pub block-of-spec : {M : Type 1} → statement M
-block-of-spec = tie.close (tie.spec slice-aggregate-copy slice-aggregate-copy-2 copy-requires returns)
+block-of-spec = tie.close (tie.spec slice-aggregate-copy (λ c. search needs) copy-requires returns)

@@ -8,11 +8,8 @@ use borrow.Author.Needs.{needs}
 use Rattle.endpoint.proofs.address.is_address.Statement.{statement}
 use Rattle.endpoint.proofs.address.is_address.Tie as tie
 
-size-of-requires : tie.Need-size-of-requires
-size-of-requires c κs = search needs
-
 returns : tie.Need-returns
 returns c = ap (λ (n : ℕ). eqb (length (c .before .before .args .addr .now)) n) (c .size-of .ensures)
 
 pub is-address-spec : {M : Type 1} → statement M
-is-address-spec = tie.close (tie.spec size-of-requires returns)
+is-address-spec = tie.close (tie.spec (λ c κs. search needs) returns)

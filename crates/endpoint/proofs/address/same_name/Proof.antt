@@ -5,9 +5,6 @@ use borrow.Author.Tests.{eq-eqb, ne-eqb}
 use Rattle.endpoint.proofs.address.same_name.Statement.{statement}
 use Rattle.endpoint.proofs.address.same_name.Tie as tie
 
-same-block-requires : tie.Need-same-block-requires
-same-block-requires c κs = search needs
-
 returns : tie.Need-returns
 returns c = simp (ne-eqb _ _ (c .if1 .taken))
 
@@ -15,4 +12,4 @@ returns-2 : tie.Need-returns-2
 returns-2 c = simp (eq-eqb _ _ (c .if1 .left), c .before .same-block .ensures)
 
 pub same-name-spec : {M : Type 1} → statement M
-same-name-spec = tie.close (tie.spec same-block-requires returns returns-2)
+same-name-spec = tie.close (tie.spec (λ c κs. search needs) returns returns-2)

@@ -8,9 +8,6 @@ use Rattle.endpoint.proofs.checks.check_time.Tie as tie
 returns : tie.Need-returns
 returns c = simp (c .if1 .taken)
 
-is-untimely-requires : tie.Need-is-untimely-requires
-is-untimely-requires c κs = search needs
-
 returns-2 : tie.Need-returns-2
 returns-2 c = simp (c .before .before .if1 .left, sym (c .before .is-untimely .ensures) ∙ c .if2 .taken)
 
@@ -18,4 +15,4 @@ returns-3 : tie.Need-returns-3
 returns-3 c = simp (c .before .before .if1 .left, sym (c .before .is-untimely .ensures) ∙ c .if2 .left)
 
 pub check-time-spec : {M : Type 1} → statement M
-check-time-spec = tie.close (tie.spec returns is-untimely-requires returns-2 returns-3)
+check-time-spec = tie.close (tie.spec returns (λ c κs. search needs) returns-2 returns-3)

@@ -5,11 +5,8 @@ use borrow.Author.Needs.{needs}
 use Rattle.listener.proofs.calls.blank_listener.Statement.{statement}
 use Rattle.listener.proofs.calls.blank_listener.Tie as tie
 
-free-slot-requires : tie.Need-free-slot-requires
-free-slot-requires c κs = search needs
-
 returns : tie.Need-returns
 returns c = rw (c .free-slot .ensures) refl
 
 pub blank-listener-spec : {M : Type 1} → statement M
-blank-listener-spec = tie.close (tie.spec free-slot-requires returns)
+blank-listener-spec = tie.close (tie.spec (λ c κs. search needs) returns)

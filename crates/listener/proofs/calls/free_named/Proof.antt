@@ -90,55 +90,19 @@ module _ (c : tie.After-is-releasable Inv-loop μ-loop) where
   in-table : c .is-releasable .result ≡ true → scanned read .loop .scan .place < 64
   in-table k = released-in-table (start read .args .l) (full (named read)) _ (found read .1) (start read .args .established) (sym (c .is-releasable .ensures) ∙ k)
 
-check-name-requires : tie.Need-check-name-requires Inv-loop μ-loop
-check-name-requires c κs = search needs
-
-enum-known-why : tie.Need-enum-known-why Inv-loop μ-loop
-enum-known-why c = search needs
-
-refused-requires : tie.Need-refused-requires Inv-loop μ-loop
-refused-requires c κs = search needs
-
 returns : tie.Need-returns Inv-loop μ-loop
 returns c =
     let checked = c .before .before .before .before in
     let a = entry checked .args in
     c .refused .ensures ∙ sym (release-stopped (a .l) (a .time) (a .addr .now) (a .port) (a .established) (sym (checked .check-name .ensures) ∙ c .before .before .why .given .1))
 
-enum-told : tie.Need-enum-told Inv-loop μ-loop
-enum-told c = search needs
-
-block-of-requires : tie.Need-block-of-requires Inv-loop μ-loop
-block-of-requires c κs = search needs
-
-empty-scan-requires : tie.Need-empty-scan-requires Inv-loop μ-loop
-empty-scan-requires c κs = search needs
-
 loop-holds : tie.Need-loop-holds Inv-loop μ-loop
 loop-holds c = loop-start _ _ _ _ (full (c .before)) _ (c .empty-scan .ensures)
-
-mul-s : tie.Need-mul-s Inv-loop μ-loop
-mul-s c = search needs
-
-element-copy-out-s : tie.Need-element-copy-out-s Inv-loop μ-loop
-element-copy-out-s c = search needs
-
-scan-slot-requires : tie.Need-scan-slot-requires Inv-loop μ-loop
-scan-slot-requires c κs = search needs
-
-add-i : tie.Need-add-i Inv-loop μ-loop
-add-i c = search needs
-
-loop-less : tie.Need-loop-less Inv-loop μ-loop
-loop-less c = search needs
 
 loop-again : tie.Need-loop-again Inv-loop μ-loop
 loop-again c =
     let at = c .before .before .before in
     loop-on _ _ _ (began (blocked at) .args .l .slots) (full (blocked at)) (at .loop .i) _ _ _ (omega arith) (at .loop .inv) (c .scan-slot .ensures)
-
-index-in-table-requires : tie.Need-index-in-table-requires Inv-loop μ-loop
-index-in-table-requires c κs = search needs
 
 mul-s-2 : tie.Need-mul-s-2 Inv-loop μ-loop
 mul-s-2 c = omega (arith, c .index-in-table .ensures .1)
@@ -146,32 +110,17 @@ mul-s-2 c = omega (arith, c .index-in-table .ensures .1)
 element-copy-out-s-2 : tie.Need-element-copy-out-s-2 Inv-loop μ-loop
 element-copy-out-s-2 c = omega (arith, c .index-in-table .ensures .1)
 
-slot-found-requires : tie.Need-slot-found-requires Inv-loop μ-loop
-slot-found-requires c κs = search needs
-
-is-releasable-requires : tie.Need-is-releasable-requires Inv-loop μ-loop
-is-releasable-requires c κs = search needs
-
-refused-requires-2 : tie.Need-refused-requires-2 Inv-loop μ-loop
-refused-requires-2 c κs = search needs
-
 returns-2 : tie.Need-returns-2 Inv-loop μ-loop
 returns-2 c =
     let p = c .before .before in
     let a = start (read p) .args in
     c .refused2 .ensures ∙ sym (release-none (a .l) (a .time) (a .addr .now) (a .port) (a .established) (clear (named (read p))) (releasable p ∙ not-true _ (c .before .if1 .taken)))
 
-with-status-requires : tie.Need-with-status-requires Inv-loop μ-loop
-with-status-requires c κs = search needs
-
 mul-freed : tie.Need-mul-freed Inv-loop μ-loop
 mul-freed c = omega (arith, in-table (c .before .before) (not-false _ (c .before .if1 .left)))
 
 element-set-from-freed : tie.Need-element-set-from-freed Inv-loop μ-loop
 element-set-from-freed c = omega (arith, in-table (c .before .before) (not-false _ (c .before .if1 .left)))
-
-done-requires : tie.Need-done-requires Inv-loop μ-loop
-done-requires c κs = search needs
 
 returns-3 : tie.Need-returns-3 Inv-loop μ-loop
 returns-3 c =
@@ -184,31 +133,8 @@ pub free-named-spec : {M : Type 1} → statement M
 free-named-spec =
     tie.close
     (tie.spec
-    Inv-loop
-    μ-loop
-    check-name-requires
-    enum-known-why
-    refused-requires
-    returns
-    enum-told
-    block-of-requires
-    empty-scan-requires
-    loop-holds
-    mul-s
-    element-copy-out-s
-    scan-slot-requires
-    add-i
-    loop-less
-    loop-again
-    index-in-table-requires
-    mul-s-2
-    element-copy-out-s-2
-    slot-found-requires
-    is-releasable-requires
-    refused-requires-2
-    returns-2
-    with-status-requires
-    mul-freed
-    element-set-from-freed
-    done-requires
-    returns-3)
+    Inv-loop μ-loop (λ c κs. search needs) (λ c. search needs) (λ c κs. search needs) returns (λ c. search needs)
+    (λ c κs. search needs) (λ c κs. search needs) loop-holds (λ c. search needs) (λ c. search needs)
+    (λ c κs. search needs) (λ c. search needs) (λ c. search needs) loop-again (λ c κs. search needs) mul-s-2
+    element-copy-out-s-2 (λ c κs. search needs) (λ c κs. search needs) (λ c κs. search needs) returns-2
+    (λ c κs. search needs) mul-freed element-set-from-freed (λ c κs. search needs) returns-3)

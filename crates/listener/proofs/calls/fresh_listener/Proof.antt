@@ -7,21 +7,6 @@ use borrow.Author.Needs.{needs}
 use Rattle.listener.proofs.calls.fresh_listener.Statement.{statement}
 use Rattle.listener.proofs.calls.fresh_listener.Tie as tie
 
-block-of-requires : tie.Need-block-of-requires
-block-of-requires c κs = search needs
-
-key-of-requires : tie.Need-key-of-requires
-key-of-requires c κs = search needs
-
-expand-key-requires : tie.Need-expand-key-requires
-expand-key-requires c κs = search needs
-
-family-of-requires : tie.Need-family-of-requires
-family-of-requires c κs = search needs
-
-blank-listener-requires : tie.Need-blank-listener-requires
-blank-listener-requires c κs = search needs
-
 returns : tie.Need-returns
 returns c =
     let s = c .before .before .before .before .before .before .before in
@@ -33,9 +18,5 @@ pub fresh-listener-spec : {M : Type 1} → statement M
 fresh-listener-spec =
     tie.close
     (tie.spec
-    block-of-requires
-    key-of-requires
-    expand-key-requires
-    family-of-requires
-    blank-listener-requires
-    returns)
+    (λ c κs. search needs) (λ c κs. search needs) (λ c κs. search needs) (λ c κs. search needs)
+    (λ c κs. search needs) returns)

@@ -5,14 +5,8 @@ use borrow.Author.Needs.{needs}
 use Rattle.listener.proofs.calls.key_of.Statement.{statement}
 use Rattle.listener.proofs.calls.key_of.Tie as tie
 
-slice-aggregate-copy : tie.Need-slice-aggregate-copy
-slice-aggregate-copy c = search needs
-
-copy-requires : tie.Need-copy-requires
-copy-requires c κs = search needs
-
 returns : tie.Need-returns
 returns c = copied-whole _ (c .before .before .before .before .pre) (c .before .copy .ensures .1)
 
 pub key-of-spec : {M : Type 1} → statement M
-key-of-spec = tie.close (tie.spec slice-aggregate-copy copy-requires returns)
+key-of-spec = tie.close (tie.spec (λ c. search needs) (λ c κs. search needs) returns)

@@ -6,9 +6,6 @@ use borrow.Author.Needs.{needs}
 use Rattle.listener.proofs.calls.pending.Statement.{statement}
 use Rattle.listener.proofs.calls.pending.Tie as tie
 
-count-pending-requires : tie.Need-count-pending-requires
-count-pending-requires c κs = search needs
-
 returns : tie.Need-returns
 unfolding pendingNumber
 returns c = simp (c .before .if1 .taken) (c .count-pending .ensures)
@@ -18,4 +15,4 @@ unfolding pendingNumber
 returns-2 c = simp (c .if1 .left) refl
 
 pub pending-spec : {M : Type 1} → statement M
-pending-spec = tie.close (tie.spec count-pending-requires returns returns-2)
+pending-spec = tie.close (tie.spec (λ c κs. search needs) returns returns-2)

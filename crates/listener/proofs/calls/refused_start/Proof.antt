@@ -4,11 +4,8 @@ use borrow.Author.Needs.{needs}
 use Rattle.listener.proofs.calls.refused_start.Statement.{statement}
 use Rattle.listener.proofs.calls.refused_start.Tie as tie
 
-never-started-requires : tie.Need-never-started-requires
-never-started-requires c κs = search needs
-
 returns : tie.Need-returns
 returns c = rw (c .never-started .ensures)
 
 pub refused-start-spec : {M : Type 1} → statement M
-refused-start-spec = tie.close (tie.spec never-started-requires returns)
+refused-start-spec = tie.close (tie.spec (λ c κs. search needs) returns)

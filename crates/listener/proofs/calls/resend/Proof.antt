@@ -84,55 +84,19 @@ module _ (c : tie.After-is-waiting Inv-loop μ-loop) where
   waits : isWaiting (view (start .args .l) (start .args .time) peer .slot .status) ≡ c .is-waiting .result
   waits = sym (rw peer-is at (c .is-waiting .ensures))
 
-check-output-requires : tie.Need-check-output-requires Inv-loop μ-loop
-check-output-requires c κs = search needs
-
-enum-known-why : tie.Need-enum-known-why Inv-loop μ-loop
-enum-known-why c = search needs
-
-refused-requires : tie.Need-refused-requires Inv-loop μ-loop
-refused-requires c κs = search needs
-
 returns : tie.Need-returns Inv-loop μ-loop
 returns c =
     let checked = c .before .before .before .before in
     let a = entry checked .args in
     unwritten (a .out .now) (c .refused .ensures) (resend-stopped (a .l) (a .time) (a .addr .now) (a .port) (length (a .out .now)) (sym (checked .check-output .ensures) ∙ c .before .before .why .given .1))
 
-enum-told : tie.Need-enum-told Inv-loop μ-loop
-enum-told c = search needs
-
-block-of-requires : tie.Need-block-of-requires Inv-loop μ-loop
-block-of-requires c κs = search needs
-
-empty-scan-requires : tie.Need-empty-scan-requires Inv-loop μ-loop
-empty-scan-requires c κs = search needs
-
 loop-holds : tie.Need-loop-holds Inv-loop μ-loop
 loop-holds c = loop-start _ _ _ _ (full (c .before)) _ (c .empty-scan .ensures)
-
-mul-s : tie.Need-mul-s Inv-loop μ-loop
-mul-s c = search needs
-
-element-copy-out-s : tie.Need-element-copy-out-s Inv-loop μ-loop
-element-copy-out-s c = search needs
-
-scan-slot-requires : tie.Need-scan-slot-requires Inv-loop μ-loop
-scan-slot-requires c κs = search needs
-
-add-i : tie.Need-add-i Inv-loop μ-loop
-add-i c = search needs
-
-loop-less : tie.Need-loop-less Inv-loop μ-loop
-loop-less c = search needs
 
 loop-again : tie.Need-loop-again Inv-loop μ-loop
 loop-again c =
     let at = c .before .before .before in
     loop-on _ _ _ (began (blocked at) .args .l .slots) (full (blocked at)) (at .loop .i) _ _ _ (omega arith) (at .loop .inv) (c .scan-slot .ensures)
-
-index-in-table-requires : tie.Need-index-in-table-requires Inv-loop μ-loop
-index-in-table-requires c κs = search needs
 
 mul-s-2 : tie.Need-mul-s-2 Inv-loop μ-loop
 mul-s-2 c = omega (arith, c .index-in-table .ensures .1)
@@ -140,26 +104,11 @@ mul-s-2 c = omega (arith, c .index-in-table .ensures .1)
 element-copy-out-s-2 : tie.Need-element-copy-out-s-2 Inv-loop μ-loop
 element-copy-out-s-2 c = omega (arith, c .index-in-table .ensures .1)
 
-slot-found-requires : tie.Need-slot-found-requires Inv-loop μ-loop
-slot-found-requires c κs = search needs
-
-is-waiting-requires : tie.Need-is-waiting-requires Inv-loop μ-loop
-is-waiting-requires c κs = search needs
-
-refused-requires-2 : tie.Need-refused-requires-2 Inv-loop μ-loop
-refused-requires-2 c κs = search needs
-
 returns-2 : tie.Need-returns-2 Inv-loop μ-loop
 returns-2 c =
     let p = c .before .before in
     let a = start p .args in
     unwritten (a .out .now) (c .refused2 .ensures) (resend-none (a .l) (a .time) (a .addr .now) (a .port) (length (a .out .now)) (clear (named p)) (waits p ∙ not-true _ (c .before .if1 .taken)))
-
-write-from-requires : tie.Need-write-from-requires Inv-loop μ-loop
-write-from-requires c κs = search needs
-
-same-length : tie.Need-same-length Inv-loop μ-loop
-same-length c = search needs
 
 returns-3 : tie.Need-returns-3 Inv-loop μ-loop
 returns-3 c =
@@ -175,29 +124,8 @@ pub resend-spec : {M : Type 1} → statement M
 resend-spec =
     tie.close
     (tie.spec
-    Inv-loop
-    μ-loop
-    check-output-requires
-    enum-known-why
-    refused-requires
-    returns
-    enum-told
-    block-of-requires
-    empty-scan-requires
-    loop-holds
-    mul-s
-    element-copy-out-s
-    scan-slot-requires
-    add-i
-    loop-less
-    loop-again
-    index-in-table-requires
-    mul-s-2
-    element-copy-out-s-2
-    slot-found-requires
-    is-waiting-requires
-    refused-requires-2
-    returns-2
-    write-from-requires
-    same-length
-    returns-3)
+    Inv-loop μ-loop (λ c κs. search needs) (λ c. search needs) (λ c κs. search needs) returns (λ c. search needs)
+    (λ c κs. search needs) (λ c κs. search needs) loop-holds (λ c. search needs) (λ c. search needs)
+    (λ c κs. search needs) (λ c. search needs) (λ c. search needs) loop-again (λ c κs. search needs) mul-s-2
+    element-copy-out-s-2 (λ c κs. search needs) (λ c κs. search needs) (λ c κs. search needs) returns-2
+    (λ c κs. search needs) (λ c. search needs) returns-3)

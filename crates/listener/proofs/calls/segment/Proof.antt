@@ -126,15 +126,6 @@ module _ (c : tie.After-place-of Inv-loop μ-loop) where
       taken-in-table (a .l) (a .time) (a .src .now) (a .seg .now) (a .iss) (length (a .out .now)) (read (named on) .0) (read (named on) .1) (block-is (named on)) (found on .0) (view-is on) (kind on .kind-of .ensures)
       (full (named on)) (clear told) (end-is on) (acted .act .result) (acted .act .ensures) (c .place-of .ensures)
 
-receive-requires : tie.Need-receive-requires Inv-loop μ-loop
-receive-requires c κs = search needs
-
-enum-known-why : tie.Need-enum-known-why Inv-loop μ-loop
-enum-known-why c = search needs
-
-refused-requires : tie.Need-refused-requires Inv-loop μ-loop
-refused-requires c κs = search needs
-
 returns : tie.Need-returns Inv-loop μ-loop
 returns c =
     let received = c .before .before .before .before in
@@ -142,64 +133,19 @@ returns c =
     unwritten (a .out .now) (c .refused .ensures) (segment-stopped (a .l) (a .time) (a .src .now) (a .seg .now) (a .iss) (length (a .out .now))
     (was-dropped _ _ (sym (received .receive .ensures) ∙ c .before .before .why .given .1)))
 
-enum-known-h : tie.Need-enum-known-h Inv-loop μ-loop
-enum-known-h c = search needs
-
-block-of-requires : tie.Need-block-of-requires Inv-loop μ-loop
-block-of-requires c κs = search needs
-
-empty-scan-requires : tie.Need-empty-scan-requires Inv-loop μ-loop
-empty-scan-requires c κs = search needs
-
 loop-holds : tie.Need-loop-holds Inv-loop μ-loop
 loop-holds c = loop-start _ _ _ _ (full (c .before)) _ (c .empty-scan .ensures)
-
-mul-s : tie.Need-mul-s Inv-loop μ-loop
-mul-s c = search needs
-
-element-copy-out-s : tie.Need-element-copy-out-s Inv-loop μ-loop
-element-copy-out-s c = search needs
-
-scan-slot-requires : tie.Need-scan-slot-requires Inv-loop μ-loop
-scan-slot-requires c κs = search needs
-
-add-i : tie.Need-add-i Inv-loop μ-loop
-add-i c = search needs
-
-loop-less : tie.Need-loop-less Inv-loop μ-loop
-loop-less c = search needs
 
 loop-again : tie.Need-loop-again Inv-loop μ-loop
 loop-again c =
     let at = c .before .before .before in
     loop-on _ _ _ (began (blocked at) .args .l .slots) (full (blocked at)) (at .loop .i) _ _ _ (omega arith) (at .loop .inv) (c .scan-slot .ensures)
 
-index-in-table-requires : tie.Need-index-in-table-requires Inv-loop μ-loop
-index-in-table-requires c κs = search needs
-
 mul-s-2 : tie.Need-mul-s-2 Inv-loop μ-loop
 mul-s-2 c = omega (arith, c .index-in-table .ensures .1)
 
 element-copy-out-s-2 : tie.Need-element-copy-out-s-2 Inv-loop μ-loop
 element-copy-out-s-2 c = omega (arith, c .index-in-table .ensures .1)
-
-slot-found-requires : tie.Need-slot-found-requires Inv-loop μ-loop
-slot-found-requires c κs = search needs
-
-view-of-requires : tie.Need-view-of-requires Inv-loop μ-loop
-view-of-requires c κs = search needs
-
-kind-of-requires : tie.Need-kind-of-requires Inv-loop μ-loop
-kind-of-requires c κs = search needs
-
-check-kind-requires : tie.Need-check-kind-requires Inv-loop μ-loop
-check-kind-requires c κs = search needs
-
-enum-known-why-2 : tie.Need-enum-known-why-2 Inv-loop μ-loop
-enum-known-why-2 c = search needs
-
-refused-requires-2 : tie.Need-refused-requires-2 Inv-loop μ-loop
-refused-requires-2 c κs = search needs
 
 returns-2 : tie.Need-returns-2 Inv-loop μ-loop
 returns-2 c =
@@ -208,29 +154,14 @@ returns-2 c =
     unwritten (a .out .now) (c .refused2 .ensures) (taken-refused (a .l) (a .time) (a .src .now) (a .seg .now) (a .iss) (length (a .out .now)) (read (named on) .0) (read (named on) .1) (block-is (named on)) (found on .0) (view-is on) (kind on .kind-of .ensures)
     (sym (on .check-kind .ensures) ∙ c .before .before .why2 .given .1))
 
-enum-told : tie.Need-enum-told Inv-loop μ-loop
-enum-told c = search needs
-
-cast-end : tie.Need-cast-end Inv-loop μ-loop
-cast-end c = search needs
-
 add-end : tie.Need-add-end Inv-loop μ-loop
 add-end c = omega (arith, on-time (named (callCheck (c .before))))
-
-act-requires : tie.Need-act-requires Inv-loop μ-loop
-act-requires c κs = search needs
-
-place-of-requires : tie.Need-place-of-requires Inv-loop μ-loop
-place-of-requires c κs = search needs
 
 mul-changed : tie.Need-mul-changed Inv-loop μ-loop
 mul-changed c = omega (arith, in-range c)
 
 element-set-from-changed : tie.Need-element-set-from-changed Inv-loop μ-loop
 element-set-from-changed c = omega (arith, in-range c)
-
-writes-syn-ack-requires : tie.Need-writes-syn-ack-requires Inv-loop μ-loop
-writes-syn-ack-requires c κs = search needs
 
 returns-3 : tie.Need-returns-3 Inv-loop μ-loop
 returns-3 c =
@@ -241,12 +172,6 @@ returns-3 c =
     left-alone (a .out .now) (taken-writes-none (a .l) (a .time) (a .src .now) (a .seg .now) (a .iss) (length (a .out .now)) (read n .0) (read n .1) (block-is n) (found (on p) .0) (view-is (on p)) (kind (on p) .kind-of .ensures)
     (full n) (clear (told p)) (end-is (on p)) (acted p .act .result) (acted p .act .ensures) (p .place-of .ensures)
     (sym (outcome .writes-syn-ack .ensures) ∙ not-true _ (c .if1 .taken)))
-
-write-from-requires : tie.Need-write-from-requires Inv-loop μ-loop
-write-from-requires c κs = search needs
-
-same-length : tie.Need-same-length Inv-loop μ-loop
-same-length c = search needs
 
 returns-4 : tie.Need-returns-4 Inv-loop μ-loop
 returns-4 c =
@@ -263,41 +188,10 @@ pub segment-spec : {M : Type 1} → statement M
 segment-spec =
     tie.close
     (tie.spec
-    Inv-loop
-    μ-loop
-    receive-requires
-    enum-known-why
-    refused-requires
-    returns
-    enum-known-h
-    block-of-requires
-    empty-scan-requires
-    loop-holds
-    mul-s
-    element-copy-out-s
-    scan-slot-requires
-    add-i
-    loop-less
-    loop-again
-    index-in-table-requires
-    mul-s-2
-    element-copy-out-s-2
-    slot-found-requires
-    view-of-requires
-    kind-of-requires
-    check-kind-requires
-    enum-known-why-2
-    refused-requires-2
-    returns-2
-    enum-told
-    cast-end
-    add-end
-    act-requires
-    place-of-requires
-    mul-changed
-    element-set-from-changed
-    writes-syn-ack-requires
-    returns-3
-    write-from-requires
-    same-length
-    returns-4)
+    Inv-loop μ-loop (λ c κs. search needs) (λ c. search needs) (λ c κs. search needs) returns (λ c. search needs)
+    (λ c κs. search needs) (λ c κs. search needs) loop-holds (λ c. search needs) (λ c. search needs)
+    (λ c κs. search needs) (λ c. search needs) (λ c. search needs) loop-again (λ c κs. search needs) mul-s-2
+    element-copy-out-s-2 (λ c κs. search needs) (λ c κs. search needs) (λ c κs. search needs)
+    (λ c κs. search needs) (λ c. search needs) (λ c κs. search needs) returns-2 (λ c. search needs)
+    (λ c. search needs) add-end (λ c κs. search needs) (λ c κs. search needs) mul-changed element-set-from-changed
+    (λ c κs. search needs) returns-3 (λ c κs. search needs) (λ c. search needs) returns-4)

@@ -6,34 +6,10 @@ use borrow.Author.Needs.{needs}
 use Rattle.listener.proofs.calls.set_key.Statement.{statement}
 use Rattle.listener.proofs.calls.set_key.Tie as tie
 
-check-time-requires : tie.Need-check-time-requires
-check-time-requires c κs = search needs
-
-enum-known-why : tie.Need-enum-known-why
-enum-known-why c = search needs
-
-refused-requires : tie.Need-refused-requires
-refused-requires c κs = search needs
-
-enum-told : tie.Need-enum-told
-enum-told c = search needs
-
-refused-requires-2 : tie.Need-refused-requires-2
-refused-requires-2 c κs = search needs
-
 returns : tie.Need-returns
 returns c =
     let a = c .before .before .before .before .before .before .before .args in
     rw (c .refused2 .ensures) (sym (key-bad (a .l) (a .time) (a .key .now) (sym (c .before .before .before .before .check-time .ensures) ∙ c .before .before .enum-told .given .1) (c .before .if1 .taken)))
-
-key-of-requires : tie.Need-key-of-requires
-key-of-requires c κs = search needs
-
-expand-key-requires : tie.Need-expand-key-requires
-expand-key-requires c κs = search needs
-
-done-requires : tie.Need-done-requires
-done-requires c κs = search needs
 
 returns-2 : tie.Need-returns-2
 returns-2 c = c .refused .ensures ∙ sym (key-stopped _ _ _ (sym (c .before .before .before .before .check-time .ensures) ∙ c .before .before .why .given .1))
@@ -47,14 +23,5 @@ pub set-key-spec : {M : Type 1} → statement M
 set-key-spec =
     tie.close
     (tie.spec
-    check-time-requires
-    enum-known-why
-    refused-requires
-    enum-told
-    refused-requires-2
-    returns
-    key-of-requires
-    expand-key-requires
-    done-requires
-    returns-2
-    returns-3)
+    (λ c κs. search needs) (λ c. search needs) (λ c κs. search needs) (λ c. search needs) (λ c κs. search needs)
+    returns (λ c κs. search needs) (λ c κs. search needs) (λ c κs. search needs) returns-2 returns-3)

@@ -8,32 +8,11 @@ use borrow.Author.Needs.{needs}
 use Rattle.listener.proofs.calls.set_settings.Statement.{statement}
 use Rattle.listener.proofs.calls.set_settings.Tie as tie
 
-check-time-requires : tie.Need-check-time-requires
-check-time-requires c κs = search needs
-
-enum-known-why : tie.Need-enum-known-why
-enum-known-why c = search needs
-
-refused-requires : tie.Need-refused-requires
-refused-requires c κs = search needs
-
-enum-told : tie.Need-enum-told
-enum-told c = search needs
-
-is-in-range-requires : tie.Need-is-in-range-requires
-is-in-range-requires c κs = search needs
-
-refused-requires-2 : tie.Need-refused-requires-2
-refused-requires-2 c κs = search needs
-
 returns : tie.Need-returns
 returns c = c .refused2 .ensures ∙ sym (settings-bad _ _ _ (sym (c .before .before .before .before .before .check-time .ensures) ∙ c .before .before .before .enum-told .given .1) (sym (c .before .before .is-in-range .ensures) ∙ not-true _ (c .before .if1 .taken)))
 
 cast-t12 : tie.Need-cast-t12
 cast-t12 c = omega (arith, mss-most _ (sym (c .before .before .is-in-range .ensures) ∙ not-false _ (c .before .if1 .left)))
-
-done-requires : tie.Need-done-requires
-done-requires c κs = search needs
 
 returns-2 : tie.Need-returns-2
 returns-2 c = c .refused .ensures ∙ sym (settings-stopped _ _ _ (sym (c .before .before .before .before .check-time .ensures) ∙ c .before .before .why .given .1))
@@ -47,14 +26,5 @@ pub set-settings-spec : {M : Type 1} → statement M
 set-settings-spec =
     tie.close
     (tie.spec
-    check-time-requires
-    enum-known-why
-    refused-requires
-    enum-told
-    is-in-range-requires
-    refused-requires-2
-    returns
-    cast-t12
-    done-requires
-    returns-2
-    returns-3)
+    (λ c κs. search needs) (λ c. search needs) (λ c κs. search needs) (λ c. search needs) (λ c κs. search needs)
+    (λ c κs. search needs) returns cast-t12 (λ c κs. search needs) returns-2 returns-3)

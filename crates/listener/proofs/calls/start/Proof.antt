@@ -10,19 +10,10 @@ use borrow.Author.Needs.{needs}
 use Rattle.listener.proofs.calls.start.Statement.{statement}
 use Rattle.listener.proofs.calls.start.Tie as tie
 
-is-size-requires : tie.Need-is-size-requires
-is-size-requires c κs = search needs
-
-refused-start-requires : tie.Need-refused-start-requires
-refused-start-requires c κs = search needs
-
 returns : tie.Need-returns
 returns c =
     let a = c .before .before .before .before .before .args in
     rw (c .refused-start .ensures) (start-address (a .own .now) (a .port) (a .key .now) (sym (c .before .before .is-size .ensures) ∙ not-true _ (c .before .if1 .taken)))
-
-refused-start-requires-2 : tie.Need-refused-start-requires-2
-refused-start-requires-2 c κs = search needs
 
 returns-2 : tie.Need-returns-2
 returns-2 c =
@@ -44,10 +35,5 @@ pub start-spec : {M : Type 1} → statement M
 start-spec =
     tie.close
     (tie.spec
-    is-size-requires
-    refused-start-requires
-    returns
-    refused-start-requires-2
-    returns-2
-    fresh-listener-requires
+    (λ c κs. search needs) (λ c κs. search needs) returns (λ c κs. search needs) returns-2 fresh-listener-requires
     returns-3)

@@ -5,12 +5,6 @@ use borrow.Author.Needs.{needs}
 use Rattle.listener.proofs.calls.write_from.Statement.{statement}
 use Rattle.listener.proofs.calls.write_from.Tie as tie
 
-size-of-requires : tie.Need-size-of-requires
-size-of-requires c κs = search needs
-
-accepted-with-requires : tie.Need-accepted-with-requires
-accepted-with-requires c κs = search needs
-
 array-share-prefix-own : tie.Need-array-share-prefix-own
 array-share-prefix-own c =
     let h = c .before .before .before .before .before .before .args .local in
@@ -21,12 +15,6 @@ slice-aggregate-write-syn-ack c =
     let h = c .before .before .before .before .before .before .before .args .local in
     own-part (h .family) (h .own) (c .before .before .before .size-of .ensures) (search needs)
 
-write-syn-ack-requires : tie.Need-write-syn-ack-requires
-write-syn-ack-requires c κs = search needs
-
-same-length : tie.Need-same-length
-same-length c = search needs
-
 returns : tie.Need-returns
 returns c = rw (c .before .before .before .before .before .accepted-with .ensures, c .before .before .before .before .before .before .size-of .ensures) at (c .before .before .write-syn-ack .ensures)
 
@@ -34,10 +22,5 @@ pub write-from-spec : {M : Type 1} → statement M
 write-from-spec =
     tie.close
     (tie.spec
-    size-of-requires
-    accepted-with-requires
-    array-share-prefix-own
-    slice-aggregate-write-syn-ack
-    write-syn-ack-requires
-    same-length
-    returns)
+    (λ c κs. search needs) (λ c κs. search needs) array-share-prefix-own slice-aggregate-write-syn-ack
+    (λ c κs. search needs) (λ c. search needs) returns)

@@ -7,18 +7,6 @@ use borrow.Author.Needs.{needs}
 use Rattle.listener.proofs.outcome.accepted_part.Statement.{statement}
 use Rattle.listener.proofs.outcome.accepted_part.Tie as tie
 
-accepted-count-requires : tie.Need-accepted-count-requires
-accepted-count-requires c κs = search needs
-
-cast-n : tie.Need-cast-n
-cast-n c = search needs
-
-payload-requires : tie.Need-payload-requires
-payload-requires c κs = search needs
-
-slice-aggregate-result : tie.Need-slice-aggregate-result
-slice-aggregate-result c = search needs
-
 returns : tie.Need-returns
 returns c = none-taken _ _ (c .before .before .payload .ensures) (c .before .before .before .accepted-count .ensures) (c .before .if1 .taken)
 
@@ -32,10 +20,5 @@ pub accepted-part-spec : {M : Type 1} → statement M
 accepted-part-spec =
     tie.close
     (tie.spec
-    accepted-count-requires
-    cast-n
-    payload-requires
-    slice-aggregate-result
-    returns
-    slice-aggregate-result-2
-    returns-2)
+    (λ c κs. search needs) (λ c. search needs) (λ c κs. search needs) (λ c. search needs) returns
+    slice-aggregate-result-2 returns-2)

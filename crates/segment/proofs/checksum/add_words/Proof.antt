@@ -46,15 +46,5 @@ pub add-words-spec : {M : Type 1} → statement M
 add-words-spec =
     tie.close
     (tie.spec
-    (λ c κs. search needs)
-    add-t5
-    (λ c. search needs)
-    (λ c κs. search needs)
-    add-t8
-    (λ c. search needs)
-    (λ c κs. search needs)
-    add-t11
-    (λ c. search needs)
-    (λ c κs. search needs)
-    add-t14
-    returns)
+    (λ c κs. search needs) add-t5 (λ c. search needs) (λ c κs. search needs) add-t8 (λ c. search needs)
+    (λ c κs. search needs) add-t11 (λ c. search needs) (λ c κs. search needs) add-t14 returns)

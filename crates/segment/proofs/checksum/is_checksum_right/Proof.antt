@@ -10,18 +10,12 @@ use borrow.Author.Needs.{needs}
 use Rattle.segment.proofs.checksum.is_checksum_right.Statement.{statement}
 use Rattle.segment.proofs.checksum.is_checksum_right.Tie as tie
 
-is-one-family-requires : tie.Need-is-one-family-requires
-is-one-family-requires c κs = search needs
-
 returns : tie.Need-returns
 unfolding checksumRight
 returns c = rw (sym (c .before .is-one-family .ensures) ∙ not-true _ (c .if1 .taken))
 
 pseudo-sum-requires : tie.Need-pseudo-sum-requires
 pseudo-sum-requires c κs = sym (c .before .is-one-family .ensures) ∙ not-false _ (c .if1 .left)
-
-add-bytes-requires : tie.Need-add-bytes-requires
-add-bytes-requires c κs = search needs
 
 returns-2 : tie.Need-returns-2
 unfolding checksumRight
@@ -35,4 +29,4 @@ returns-2 c =
 pub is-checksum-right-spec : {M : Type 1} → statement M
 is-checksum-right-spec =
     tie.close
-    (tie.spec is-one-family-requires returns pseudo-sum-requires add-bytes-requires returns-2)
+    (tie.spec (λ c κs. search needs) returns pseudo-sum-requires (λ c κs. search needs) returns-2)

@@ -5,12 +5,9 @@ use borrow.Author.Needs.{needs}
 use Rattle.segment.proofs.header.has_bit.Statement.{statement}
 use Rattle.segment.proofs.header.has_bit.Tie as tie
 
-div-result : tie.Need-div-result
-div-result c = search needs
-
 returns : tie.Need-returns
 unfolding has
 returns c = search needs
 
 pub has-bit-spec : {M : Type 1} → statement M
-has-bit-spec = tie.close (tie.spec div-result returns)
+has-bit-spec = tie.close (tie.spec (λ c. search needs) returns)

@@ -15,14 +15,5 @@ returns c =
     let h : length s ≤ 13 = omega arith in
     rw (List·getD-eq-default s 0 h)
 
-shared-slice-read-has-bit : tie.Need-shared-slice-read-has-bit
-shared-slice-read-has-bit c = search needs
-
-has-bit-requires : tie.Need-has-bit-requires
-has-bit-requires c κs = search needs
-
-returns-2 : tie.Need-returns-2
-returns-2 c = search needs
-
 pub has-syn-spec : {M : Type 1} → statement M
-has-syn-spec = tie.close (tie.spec returns shared-slice-read-has-bit has-bit-requires returns-2)
+has-syn-spec = tie.close (tie.spec returns (λ c. search needs) (λ c κs. search needs) (λ c. search needs))

@@ -21,9 +21,6 @@ returns-2 c =
     let s = c .before .before .args .seg .now in
     simp (lt-ltb 1520 (length s) (omega arith), or-true)
 
-shared-slice-read-offset : tie.Need-shared-slice-read-offset
-shared-slice-read-offset c = search needs
-
 cast-offset : tie.Need-cast-offset
 cast-offset c = omega (arith, c .shared-slice-known .given 12)
 
@@ -45,11 +42,4 @@ returns-4 c =
 pub is-malformed-spec : {M : Type 1} → statement M
 is-malformed-spec =
     tie.close
-    (tie.spec
-    returns
-    returns-2
-    shared-slice-read-offset
-    cast-offset
-    returns-3
-    mul-result
-    returns-4)
+    (tie.spec returns returns-2 (λ c. search needs) cast-offset returns-3 mul-result returns-4)

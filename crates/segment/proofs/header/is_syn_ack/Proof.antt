@@ -7,29 +7,17 @@ use borrow.Author.Needs.{needs}
 use Rattle.segment.proofs.header.is_syn_ack.Statement.{statement}
 use Rattle.segment.proofs.header.is_syn_ack.Tie as tie
 
-has-bit-requires : tie.Need-has-bit-requires
-has-bit-requires c κs = search needs
-
 returns : tie.Need-returns
 unfolding isSynAck
 returns c = simp (sym (c .before .has-bit .ensures) ∙ not-true _ (c .if1 .taken))
-
-has-bit-requires-2 : tie.Need-has-bit-requires-2
-has-bit-requires-2 c κs = search needs
 
 returns-2 : tie.Need-returns-2
 unfolding isSynAck
 returns-2 c = simp (sym (c .before .before .before .has-bit .ensures) ∙ not-false _ (c .before .before .if1 .left), sym (c .before .has-bit2 .ensures) ∙ not-true _ (c .if2 .taken))
 
-has-bit-requires-3 : tie.Need-has-bit-requires-3
-has-bit-requires-3 c κs = search needs
-
 returns-3 : tie.Need-returns-3
 unfolding isSynAck
 returns-3 c = simp (sym (c .before .before .before .before .before .has-bit .ensures) ∙ not-false _ (c .before .before .before .before .if1 .left), sym (c .before .before .before .has-bit2 .ensures) ∙ not-false _ (c .before .before .if2 .left), sym (c .before .has-bit3 .ensures) ∙ c .if3 .taken)
-
-has-bit-requires-4 : tie.Need-has-bit-requires-4
-has-bit-requires-4 c κs = search needs
 
 returns-4 : tie.Need-returns-4
 unfolding isSynAck
@@ -43,12 +31,5 @@ pub is-syn-ack-spec : {M : Type 1} → statement M
 is-syn-ack-spec =
     tie.close
     (tie.spec
-    has-bit-requires
-    returns
-    has-bit-requires-2
-    returns-2
-    has-bit-requires-3
-    returns-3
-    has-bit-requires-4
-    returns-4
-    returns-5)
+    (λ c κs. search needs) returns (λ c κs. search needs) returns-2 (λ c κs. search needs) returns-3
+    (λ c κs. search needs) returns-4 returns-5)

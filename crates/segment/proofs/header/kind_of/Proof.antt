@@ -6,25 +6,13 @@ use borrow.Author.Needs.{needs}
 use Rattle.segment.proofs.header.kind_of.Statement.{statement}
 use Rattle.segment.proofs.header.kind_of.Tie as tie
 
-has-bit-requires : tie.Need-has-bit-requires
-has-bit-requires c κs = search needs
-
-has-bit-requires-2 : tie.Need-has-bit-requires-2
-has-bit-requires-2 c κs = search needs
-
 returns : tie.Need-returns
 unfolding kindOf
 returns c = simp (sym (c .before .before .before .has-bit .ensures) ∙ c .before .before .if1 .taken, sym (c .before .has-bit2 .ensures) ∙ c .if2 .taken)
 
-has-bit-requires-3 : tie.Need-has-bit-requires-3
-has-bit-requires-3 c κs = search needs
-
 returns-2 : tie.Need-returns-2
 unfolding kindOf
 returns-2 c = simp (sym (c .before .before .before .before .before .has-bit .ensures) ∙ c .before .before .before .before .if1 .taken, sym (c .before .before .before .has-bit2 .ensures) ∙ c .before .before .if2 .left, sym (c .before .has-bit3 .ensures) ∙ c .if3 .taken)
-
-has-bit-requires-4 : tie.Need-has-bit-requires-4
-has-bit-requires-4 c κs = search needs
 
 returns-3 : tie.Need-returns-3
 unfolding kindOf
@@ -34,15 +22,9 @@ returns-4 : tie.Need-returns-4
 unfolding kindOf
 returns-4 c = simp (sym (c .before .before .before .before .before .before .before .has-bit .ensures) ∙ c .before .before .before .before .before .before .if1 .taken, sym (c .before .before .before .before .before .has-bit2 .ensures) ∙ c .before .before .before .before .if2 .left, sym (c .before .before .before .has-bit3 .ensures) ∙ c .before .before .if3 .left, sym (c .before .has-bit4 .ensures) ∙ c .if4 .left)
 
-has-bit-requires-5 : tie.Need-has-bit-requires-5
-has-bit-requires-5 c κs = search needs
-
 returns-5 : tie.Need-returns-5
 unfolding kindOf
 returns-5 c = simp (sym (c .before .before .before .has-bit .ensures) ∙ c .before .before .if1 .left, sym (c .before .has-bit5 .ensures) ∙ c .if5 .taken)
-
-has-bit-requires-6 : tie.Need-has-bit-requires-6
-has-bit-requires-6 c κs = search needs
 
 returns-6 : tie.Need-returns-6
 unfolding kindOf
@@ -56,16 +38,5 @@ pub kind-of-spec : {M : Type 1} → statement M
 kind-of-spec =
     tie.close
     (tie.spec
-    has-bit-requires
-    has-bit-requires-2
-    returns
-    has-bit-requires-3
-    returns-2
-    has-bit-requires-4
-    returns-3
-    returns-4
-    has-bit-requires-5
-    returns-5
-    has-bit-requires-6
-    returns-6
-    returns-7)
+    (λ c κs. search needs) (λ c κs. search needs) returns (λ c κs. search needs) returns-2 (λ c κs. search needs)
+    returns-3 returns-4 (λ c κs. search needs) returns-5 (λ c κs. search needs) returns-6 returns-7)

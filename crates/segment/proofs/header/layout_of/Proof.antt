@@ -7,9 +7,6 @@ use borrow.Author.Needs.{needs}
 use Rattle.segment.proofs.header.layout_of.Statement.{statement}
 use Rattle.segment.proofs.header.layout_of.Tie as tie
 
-is-malformed-requires : tie.Need-is-malformed-requires
-is-malformed-requires c κs = search needs
-
 returns : tie.Need-returns
 returns c =
     let m = sym (c .before .is-malformed .ensures) ∙ c .if1 .taken in
@@ -28,4 +25,4 @@ returns-2 c =
     ((rw m e, omega (arith, e, formed _ m)), rw (m, e))
 
 pub layout-of-spec : {M : Type 1} → statement M
-layout-of-spec = tie.close (tie.spec is-malformed-requires returns header-length-requires sub-t5 returns-2)
+layout-of-spec = tie.close (tie.spec (λ c κs. search needs) returns header-length-requires sub-t5 returns-2)

@@ -8,12 +8,6 @@ use borrow.Author.Needs.{needs}
 use Rattle.segment.proofs.header.payload.Statement.{statement}
 use Rattle.segment.proofs.header.payload.Tie as tie
 
-layout-of-requires : tie.Need-layout-of-requires
-layout-of-requires c κs = search needs
-
-part-requires : tie.Need-part-requires
-part-requires c κs = search needs
-
 returns : tie.Need-returns
 returns c =
     let s = c .before .before .before .args .seg .now in
@@ -21,4 +15,4 @@ returns c =
     c .part .ensures ∙ ap₂ (λ (n at : ℕ). take n (drop at s)) (l .1) (l .0 .0) ∙ payload-by s
 
 pub payload-spec : {M : Type 1} → statement M
-payload-spec = tie.close (tie.spec layout-of-requires part-requires returns)
+payload-spec = tie.close (tie.spec (λ c κs. search needs) (λ c κs. search needs) returns)

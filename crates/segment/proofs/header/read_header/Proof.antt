@@ -8,9 +8,6 @@ use borrow.Author.Needs.{needs}
 use Rattle.segment.proofs.header.read_header.Statement.{statement}
 use Rattle.segment.proofs.header.read_header.Tie as tie
 
-is-malformed-requires : tie.Need-is-malformed-requires
-is-malformed-requires c κs = search needs
-
 returns : tie.Need-returns
 unfolding shapeOf
 returns c = simp (sym (c .before .is-malformed .ensures) ∙ c .if1 .taken)
@@ -23,4 +20,4 @@ unfolding shapeOf
 returns-2 c = simp (sym (c .before .before .is-malformed .ensures) ∙ c .before .if1 .left, c .fields .ensures)
 
 pub read-header-spec : {M : Type 1} → statement M
-read-header-spec = tie.close (tie.spec is-malformed-requires returns fields-requires returns-2)
+read-header-spec = tie.close (tie.spec (λ c κs. search needs) returns fields-requires returns-2)

@@ -7,24 +7,6 @@ use borrow.Author.Needs.{needs}
 use Rattle.segment.proofs.options.cookie.Statement.{statement}
 use Rattle.segment.proofs.options.cookie.Tie as tie
 
-enum-known-fast : tie.Need-enum-known-fast
-enum-known-fast c = search needs
-
-part-requires : tie.Need-part-requires
-part-requires c κs = search needs
-
-enum-told : tie.Need-enum-told
-enum-told c = search needs
-
-slice-aggregate-result : tie.Need-slice-aggregate-result
-slice-aggregate-result c = search needs
-
-enum-told-2 : tie.Need-enum-told-2
-enum-told-2 c = search needs
-
-slice-aggregate-result-2 : tie.Need-slice-aggregate-result-2
-slice-aggregate-result-2 c = search needs
-
 returns : tie.Need-returns
 returns c = c .part .ensures ∙ ap (λ (f : FastOpenOption). cookieBytes f (c .before .before .before .before .before .args .area .now)) (sym (c .before .before .fast .given .1))
 
@@ -38,12 +20,5 @@ pub cookie-spec : {M : Type 1} → statement M
 cookie-spec =
     tie.close
     (tie.spec
-    enum-known-fast
-    part-requires
-    enum-told
-    slice-aggregate-result
-    enum-told-2
-    slice-aggregate-result-2
-    returns
-    returns-2
-    returns-3)
+    (λ c. search needs) (λ c κs. search needs) (λ c. search needs) (λ c. search needs) (λ c. search needs)
+    (λ c. search needs) returns returns-2 returns-3)

@@ -10,23 +10,11 @@ use borrow.Author.Needs.{needs}
 use Rattle.segment.proofs.options.fast_open_option.Statement.{statement}
 use Rattle.segment.proofs.options.fast_open_option.Tie as tie
 
-shared-slice-read-if1 : tie.Need-shared-slice-read-if1
-shared-slice-read-if1 c = search needs
-
-sub-n : tie.Need-sub-n
-sub-n c = search needs
-
 returns : tie.Need-returns
 unfolding fastOpenOption cookieAt
 returns c =
     let a = c .before .before .before .before .args in
     simp (eq-eqb (byteAt (a .area .now) (a .i)) 34 (omega arith), eq-eqb (a .len - 2) 0 (omega arith))
-
-is-cookie-length-requires : tie.Need-is-cookie-length-requires
-is-cookie-length-requires c κs = search needs
-
-add-t10 : tie.Need-add-t10
-add-t10 c = search needs
 
 returns-2 : tie.Need-returns-2
 unfolding fastOpenOption cookieAt
@@ -50,11 +38,5 @@ pub fast-open-option-spec : {M : Type 1} → statement M
 fast-open-option-spec =
     tie.close
     (tie.spec
-    shared-slice-read-if1
-    sub-n
-    returns
-    is-cookie-length-requires
-    add-t10
-    returns-2
-    returns-3
+    (λ c. search needs) (λ c. search needs) returns (λ c κs. search needs) (λ c. search needs) returns-2 returns-3
     returns-4)

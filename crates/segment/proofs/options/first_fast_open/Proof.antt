@@ -7,24 +7,11 @@ use borrow.Author.Needs.{needs}
 use Rattle.segment.proofs.options.first_fast_open.Statement.{statement}
 use Rattle.segment.proofs.options.first_fast_open.Tie as tie
 
-enum-told : tie.Need-enum-told
-enum-told c = search needs
-
-enum-told-2 : tie.Need-enum-told-2
-enum-told-2 c = search needs
-
-enum-known-found : tie.Need-enum-known-found
-enum-known-found c = search needs
-
-returns : tie.Need-returns
-returns c = search needs
-
-returns-2 : tie.Need-returns-2
-returns-2 c = search needs
-
 returns-3 : tie.Need-returns-3
 returns-3 c = ap (λ (f : FastOpenOption). firstFastOpen f (c .before .before .before .args .next)) (sym (c .before .found .given .1))
 
 pub first-fast-open-spec : {M : Type 1} → statement M
 first-fast-open-spec =
-    tie.close (tie.spec enum-told enum-told-2 enum-known-found returns returns-2 returns-3)
+    tie.close
+    (tie.spec
+    (λ c. search needs) (λ c. search needs) (λ c. search needs) (λ c. search needs) (λ c. search needs) returns-3)

@@ -8,15 +8,6 @@ use borrow.Author.Needs.{needs}
 use Rattle.segment.proofs.options.mss_option.Statement.{statement}
 use Rattle.segment.proofs.options.mss_option.Tie as tie
 
-shared-slice-read-if1 : tie.Need-shared-slice-read-if1
-shared-slice-read-if1 c = search needs
-
-add-word-at : tie.Need-add-word-at
-add-word-at c = search needs
-
-word-at-requires : tie.Need-word-at-requires
-word-at-requires c κs = search needs
-
 returns : tie.Need-returns
 unfolding mssOption
 returns c =
@@ -38,4 +29,5 @@ returns-3 c =
 pub mss-option-spec : {M : Type 1} → statement M
 mss-option-spec =
     tie.close
-    (tie.spec shared-slice-read-if1 add-word-at word-at-requires returns returns-2 returns-3)
+    (tie.spec
+    (λ c. search needs) (λ c. search needs) (λ c κs. search needs) returns returns-2 returns-3)

@@ -23,21 +23,12 @@ loop-holds : tie.Need-loop-holds Inv-loop μ-loop
 unfolding readOptions
 loop-holds c = (refl, (search needs, refl))
 
-shared-slice-read-kind : tie.Need-shared-slice-read-kind Inv-loop μ-loop
-shared-slice-read-kind c = search needs
-
 returns : tie.Need-returns Inv-loop μ-loop
 returns c =
     let q = c .before .before .before .loop in
     let s = c .before .before .before .before .before .args .area .now in
     let e = one-step s (q .i) (q .found) (omega arith) in
     sym (simp (eq-eqb (byteAt s (q .i)) 0 (omega arith)) at e) ∙ q .inv .1 .1
-
-add-i : tie.Need-add-i Inv-loop μ-loop
-add-i c = search needs
-
-loop-less : tie.Need-loop-less Inv-loop μ-loop
-loop-less c = search needs
 
 loop-again : tie.Need-loop-again Inv-loop μ-loop
 loop-again c =
@@ -47,9 +38,6 @@ loop-again c =
     let e = one-step s (q .i) (q .found) (omega arith) in
     (refl, (search needs, sym (simp (ne-eqb k 0 (λ z. omega arith), eq-eqb k 1 (omega arith)) at e) ∙ q .inv .1 .1))
 
-sub-if3 : tie.Need-sub-if3 Inv-loop μ-loop
-sub-if3 c = search needs
-
 returns-2 : tie.Need-returns-2 Inv-loop μ-loop
 returns-2 c =
     let q = c .before .before .before .before .before .loop in
@@ -57,12 +45,6 @@ returns-2 c =
     let e = one-step s (q .i) (q .found) (omega arith) in
     let z : length s ≤ q .i + 1 = omega arith in
     sym (simp (ne-eqb _ _ (c .before .before .if1 .left), ne-eqb _ _ (c .before .if2 .left), List·getD-eq-default s 0 z) at e) ∙ q .inv .1 .1
-
-add-len : tie.Need-add-len Inv-loop μ-loop
-add-len c = search needs
-
-shared-slice-read-len : tie.Need-shared-slice-read-len Inv-loop μ-loop
-shared-slice-read-len c = search needs
 
 cast-len : tie.Need-cast-len Inv-loop μ-loop
 cast-len c = omega (arith, c .shared-slice-known3 .given (c .before .before .before .before .before .before .loop .i + 1))
@@ -73,9 +55,6 @@ returns-3 c =
     let s = c .before .before .before .before .before .before .before .before .before .args .area .now in
     let e = one-step s (q .i) (q .found) (omega arith) in
     sym (simp (ne-eqb _ _ (c .before .before .before .before .if1 .left), ne-eqb _ _ (c .before .before .before .if2 .left), lt-leb 2 (byteAt s (q .i + 1)) (omega arith)) at e) ∙ q .inv .1 .1
-
-sub-if5 : tie.Need-sub-if5 Inv-loop μ-loop
-sub-if5 c = search needs
 
 returns-4 : tie.Need-returns-4 Inv-loop μ-loop
 returns-4 c =
@@ -93,12 +72,6 @@ with-option-requires c κs =
     let least : 2 ≤ l = omega arith in
     let fits : q .i + l ≤ length s = omega arith in
     (least, fits)
-
-add-i-2 : tie.Need-add-i-2 Inv-loop μ-loop
-add-i-2 c = search needs
-
-loop-less-2 : tie.Need-loop-less-2 Inv-loop μ-loop
-loop-less-2 c = search needs
 
 loop-again-2 : tie.Need-loop-again-2 Inv-loop μ-loop
 loop-again-2 c =
@@ -122,24 +95,6 @@ pub read-options-spec : {M : Type 1} → statement M
 read-options-spec =
     tie.close
     (tie.spec
-    Inv-loop
-    μ-loop
-    loop-holds
-    shared-slice-read-kind
-    returns
-    add-i
-    loop-less
-    loop-again
-    sub-if3
-    returns-2
-    add-len
-    shared-slice-read-len
-    cast-len
-    returns-3
-    sub-if5
-    returns-4
-    with-option-requires
-    add-i-2
-    loop-less-2
-    loop-again-2
-    returns-5)
+    Inv-loop μ-loop loop-holds (λ c. search needs) returns (λ c. search needs) (λ c. search needs) loop-again
+    (λ c. search needs) returns-2 (λ c. search needs) (λ c. search needs) cast-len returns-3 (λ c. search needs)
+    returns-4 with-option-requires (λ c. search needs) (λ c. search needs) loop-again-2 returns-5)

@@ -8,15 +8,6 @@ use borrow.Author.Needs.{needs}
 use Rattle.segment.proofs.options.segment_options.Statement.{statement}
 use Rattle.segment.proofs.options.segment_options.Tie as tie
 
-option-area-requires : tie.Need-option-area-requires
-option-area-requires c κs = search needs
-
-read-options-requires : tie.Need-read-options-requires
-read-options-requires c κs = search needs
-
-has-syn-requires : tie.Need-has-syn-requires
-has-syn-requires c κs = search needs
-
 returns : tie.Need-returns
 unfolding optionsOf
 returns c =
@@ -33,4 +24,4 @@ returns-2 c =
 pub segment-options-spec : {M : Type 1} → statement M
 segment-options-spec =
     tie.close
-    (tie.spec option-area-requires read-options-requires has-syn-requires returns returns-2)
+    (tie.spec (λ c κs. search needs) (λ c κs. search needs) (λ c κs. search needs) returns returns-2)

@@ -17,18 +17,6 @@ both : (found : Options) (area : List ℕ) (i len : ℕ) (m₁ m : Mss) (f₁ f 
 unfolding withOption
 both found area i len m₁ m f₁ f p q r s = cc
 
-mss-option-requires : tie.Need-mss-option-requires
-mss-option-requires c κs = search needs
-
-first-mss-requires : tie.Need-first-mss-requires
-first-mss-requires c κs = search needs
-
-fast-open-option-requires : tie.Need-fast-open-option-requires
-fast-open-option-requires c κs = search needs
-
-first-fast-open-requires : tie.Need-first-fast-open-requires
-first-fast-open-requires c κs = search needs
-
 returns : tie.Need-returns
 returns c =
     let a = c .before .before .before .before .before .args in
@@ -38,8 +26,4 @@ pub with-option-spec : {M : Type 1} → statement M
 with-option-spec =
     tie.close
     (tie.spec
-    mss-option-requires
-    first-mss-requires
-    fast-open-option-requires
-    first-fast-open-requires
-    returns)
+    (λ c κs. search needs) (λ c κs. search needs) (λ c κs. search needs) (λ c κs. search needs) returns)

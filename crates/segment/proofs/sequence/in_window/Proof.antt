@@ -16,9 +16,6 @@ unfolding inWindow
 side true expected seq h = sym (lt-ltb _ _ h)
 side false expected seq h = sym (le-ltb _ _ h)
 
-wrapping-sub-u32-requires : tie.Need-wrapping-sub-u32-requires
-wrapping-sub-u32-requires c κs = search needs
-
 returns : tie.Need-returns
 unfolding difference
 returns c =
@@ -32,4 +29,4 @@ returns-2 c =
     side _ (a .expected) (a .seq) (omega arith)
 
 pub in-window-spec : {M : Type 1} → statement M
-in-window-spec = tie.close (tie.spec wrapping-sub-u32-requires returns returns-2)
+in-window-spec = tie.close (tie.spec (λ c κs. search needs) returns returns-2)

@@ -15,22 +15,10 @@ returns c = (length-plain (c .before .before .before .args .f .mss) (c .before .
 returns-2 : tie.Need-returns-2
 returns-2 c = (length-request (c .before .before .before .before .args .f .mss) (c .before .before .before .before .args .f .fast) (c .before .before .before .before .args .cookie .now) (c .before .if1 .left) (c .if2 .taken), omega arith)
 
-is-cookie-length-requires : tie.Need-is-cookie-length-requires
-is-cookie-length-requires c κs = search needs
-
 returns-3 : tie.Need-returns-3
 returns-3 c =
     let a = c .before .before .before .before .before .before .args in
     (length-none (a .f .mss) (a .f .fast) (a .cookie .now) (c .before .before .before .if1 .left) (c .before .before .if2 .left) (sym (c .before .is-cookie-length .ensures) ∙ not-true _ (c .if3 .taken)), omega arith)
-
-add-result : tie.Need-add-result
-add-result c = search needs
-
-mul-result : tie.Need-mul-result
-mul-result c = search needs
-
-add-result-2 : tie.Need-add-result-2
-add-result-2 c = search needs
 
 returns-4 : tie.Need-returns-4
 returns-4 c =
@@ -42,11 +30,5 @@ pub option-length-spec : {M : Type 1} → statement M
 option-length-spec =
     tie.close
     (tie.spec
-    returns
-    returns-2
-    is-cookie-length-requires
-    returns-3
-    add-result
-    mul-result
-    add-result-2
+    returns returns-2 (λ c κs. search needs) returns-3 (λ c. search needs) (λ c. search needs) (λ c. search needs)
     returns-4)

@@ -10,12 +10,6 @@ use borrow.Author.Needs.{needs}
 use Rattle.segment.proofs.write.pad.Statement.{statement}
 use Rattle.segment.proofs.write.pad.Tie as tie
 
-sub-n : tie.Need-sub-n
-sub-n c = search needs
-
-array-share-prefix-ones : tie.Need-array-share-prefix-ones
-array-share-prefix-ones c = search needs
-
 slice-aggregate-append : tie.Need-slice-aggregate-append
 slice-aggregate-append c =
     let n = padding (c .before .before .before .args .at) in
@@ -25,9 +19,6 @@ append-requires : tie.Need-append-requires
 append-requires c κs =
     let n = padding (c .before .before .before .args .at) in
     omega (arith, ap length (ones n (omega arith)), length-replicate {A = ℕ} n 1)
-
-same-length : tie.Need-same-length
-same-length c = search needs
 
 returns : tie.Need-returns
 returns c =
@@ -43,9 +34,4 @@ pub pad-spec : {M : Type 1} → statement M
 pad-spec =
     tie.close
     (tie.spec
-    sub-n
-    array-share-prefix-ones
-    slice-aggregate-append
-    append-requires
-    same-length
-    returns)
+    (λ c. search needs) (λ c. search needs) slice-aggregate-append append-requires (λ c. search needs) returns)

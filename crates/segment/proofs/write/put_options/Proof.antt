@@ -11,20 +11,8 @@ use Rattle.segment.specs.Write.{mssBytes, fastOpenBytes, optionBytes}
 use Rattle.segment.proofs.write.put_options.Statement.{statement}
 use Rattle.segment.proofs.write.put_options.Tie as tie
 
-cast-t12 : tie.Need-cast-t12
-cast-t12 c = search needs
-
-cast-t14 : tie.Need-cast-t14
-cast-t14 c = search needs
-
-slice-aggregate-append : tie.Need-slice-aggregate-append
-slice-aggregate-append c = search needs
-
 append-requires : tie.Need-append-requires
 append-requires c κs = omega (arith, options-least (c .before .before .before .before .args .mss) (c .before .before .before .before .args .fast) (c .before .before .before .before .args .cookie .now))
-
-same-length : tie.Need-same-length
-same-length c = search needs
 
 returns : tie.Need-returns
 returns c =
@@ -45,9 +33,6 @@ cast-t12-2 c =
     let s = c .before .before .before .before .before .before .before .before in
     omega (arith, cookie-fits (s .args .mss) (s .args .fast) (s .args .cookie .now) _ (c .if1 .left) (s .pre .0))
 
-slice-aggregate-append-2 : tie.Need-slice-aggregate-append-2
-slice-aggregate-append-2 c = search needs
-
 append-requires-2 : tie.Need-append-requires-2
 append-requires-2 c κs =
     let s = c .before .before .before .before .before .before .before .before .before .before in
@@ -62,9 +47,6 @@ pad-requires : tie.Need-pad-requires
 pad-requires c κs =
     let s = c .before .before .before .before .before .before .before .before .before .before .before .before .before .before .before .before .before .before in
     padding-fits (s .args .mss) (s .args .fast) (s .args .cookie .now) _ _ (c .before .before .before .before .before .before .before .before .before .before .if1 .left) (omega arith) (omega arith)
-
-same-length-2 : tie.Need-same-length-2
-same-length-2 c = search needs
 
 returns-2 : tie.Need-returns-2
 returns-2 c =
@@ -86,17 +68,6 @@ pub put-options-spec : {M : Type 1} → statement M
 put-options-spec =
     tie.close
     (tie.spec
-    cast-t12
-    cast-t14
-    slice-aggregate-append
-    append-requires
-    same-length
-    returns
-    add-t21
-    cast-t12-2
-    slice-aggregate-append-2
-    append-requires-2
-    append-requires-3
-    pad-requires
-    same-length-2
+    (λ c. search needs) (λ c. search needs) (λ c. search needs) append-requires (λ c. search needs) returns
+    add-t21 cast-t12-2 (λ c. search needs) append-requires-2 append-requires-3 pad-requires (λ c. search needs)
     returns-2)

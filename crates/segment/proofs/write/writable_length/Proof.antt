@@ -11,15 +11,9 @@ use borrow.Author.Needs.{needs}
 use Rattle.segment.proofs.write.writable_length.Statement.{statement}
 use Rattle.segment.proofs.write.writable_length.Tie as tie
 
-is-one-family-requires : tie.Need-is-one-family-requires
-is-one-family-requires c κs = search needs
-
 returns : tie.Need-returns
 unfolding canWrite
 returns c = rw (sym (c .before .is-one-family .ensures) ∙ not-true _ (c .if1 .taken))
-
-option-length-requires : tie.Need-option-length-requires
-option-length-requires c κs = search needs
 
 returns-2 : tie.Need-returns-2
 unfolding canWrite
@@ -27,9 +21,6 @@ returns-2 c =
     let a = c .before .before .before .before .before .before .before .before .args in
     let f = sym (c .before .before .before .is-one-family .ensures) ∙ not-false _ (c .before .before .if1 .left) in
     rw (f, not-allowed (a .f .mss) (a .f .fast) (a .cookie .now) _ (c .before .option-length .ensures .0) (c .if2 .taken))
-
-sub-if3 : tie.Need-sub-if3
-sub-if3 c = search needs
 
 returns-3 : tie.Need-returns-3
 unfolding canWrite
@@ -39,12 +30,6 @@ returns-3 c =
     let k = is-allowed (a .f .mss) (a .f .fast) (a .cookie .now) _ (c .before .before .option-length .ensures .0) (c .before .if2 .left) in
     let h : 1520 < lengthFor (a .f) (a .cookie .now) (a .payload .now) = omega arith in
     rw (f, k .0, lt-leb _ _ h)
-
-add-n : tie.Need-add-n
-add-n c = search needs
-
-add-n-2 : tie.Need-add-n-2
-add-n-2 c = search needs
 
 returns-4 : tie.Need-returns-4
 unfolding canWrite
@@ -69,13 +54,5 @@ pub writable-length-spec : {M : Type 1} → statement M
 writable-length-spec =
     tie.close
     (tie.spec
-    is-one-family-requires
-    returns
-    option-length-requires
-    returns-2
-    sub-if3
-    returns-3
-    add-n
-    add-n-2
-    returns-4
-    returns-5)
+    (λ c κs. search needs) returns (λ c κs. search needs) returns-2 (λ c. search needs) returns-3
+    (λ c. search needs) (λ c. search needs) returns-4 returns-5)

@@ -11,9 +11,6 @@ use Rattle.segment.proofs.write.write_segment.Tie as tie
 allowed-here : (c : tie.Else1) → Allowed (c .before .before .before .before .before .before .before .args .src .now) (c .before .before .before .before .before .before .before .args .dst .now) (c .before .before .before .before .before .before .before .args .f) (c .before .before .before .before .before .before .before .args .cookie .now) (c .before .before .before .before .before .before .before .args .payload .now) (length (c .before .before .before .before .before .before .before .args .out .now)) (c .before .writable-length .result)
 allowed-here c = allowed _ _ (c .before .before .before .before .before .before .before .args .f) _ _ _ _ (c .before .writable-length .ensures) (c .if1 .left)
 
-writable-length-requires : tie.Need-writable-length-requires
-writable-length-requires c κs = search needs
-
 returns : tie.Need-returns
 returns c =
     let a = c .before .before .before .before .before .before .before .args in
@@ -36,9 +33,6 @@ put-header-requires c κs =
     let g = allowed-here (c .before .before .before .before .before) in
     (g .facts .one, (omega (arith, g .area, c .before .before .before .put-body .ensures .0), (omega (arith, g .whole), omega (arith, g .facts .fits, g .whole))))
 
-same-length : tie.Need-same-length
-same-length c = search needs
-
 returns-2 : tie.Need-returns-2
 returns-2 c =
     let a = c .before .before .before .before .before .before .before .before .before .before .before .before .before .before .before .args in
@@ -49,11 +43,5 @@ pub write-segment-spec : {M : Type 1} → statement M
 write-segment-spec =
     tie.close
     (tie.spec
-    writable-length-requires
-    returns
-    put-body-requires
-    add-put-header
-    cast-put-header
-    put-header-requires
-    same-length
-    returns-2)
+    (λ c κs. search needs) returns put-body-requires add-put-header cast-put-header put-header-requires
+    (λ c. search needs) returns-2)

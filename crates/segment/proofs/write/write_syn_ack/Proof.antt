@@ -22,24 +22,6 @@ as-syn-ack : (src dst cookie out end : List ℕ) (a : SynAck) (f : Outgoing) (n 
 unfolding synAckBytes
 as-syn-ack src dst cookie out end a f n w e = rw e at w
 
-next-after-requires : tie.Need-next-after-requires
-next-after-requires c κs = search needs
-
-add-t9 : tie.Need-add-t9
-add-t9 c = search needs
-
-slice-aggregate-write-segment : tie.Need-slice-aggregate-write-segment
-slice-aggregate-write-segment c = search needs
-
-slice-aggregate-write-segment-2 : tie.Need-slice-aggregate-write-segment-2
-slice-aggregate-write-segment-2 c = search needs
-
-write-segment-requires : tie.Need-write-segment-requires
-write-segment-requires c κs = search needs
-
-same-length : tie.Need-same-length
-same-length c = search needs
-
 returns : tie.Need-returns
 returns c =
     let d = c .before .before .before .before .before .before in
@@ -52,10 +34,5 @@ pub write-syn-ack-spec : {M : Type 1} → statement M
 write-syn-ack-spec =
     tie.close
     (tie.spec
-    next-after-requires
-    add-t9
-    slice-aggregate-write-segment
-    slice-aggregate-write-segment-2
-    write-segment-requires
-    same-length
-    returns)
+    (λ c κs. search needs) (λ c. search needs) (λ c. search needs) (λ c. search needs) (λ c κs. search needs)
+    (λ c. search needs) returns)

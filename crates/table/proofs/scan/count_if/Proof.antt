@@ -4,14 +4,8 @@ use borrow.Author.Needs.{needs}
 use Rattle.table.proofs.scan.count_if.Statement.{statement}
 use Rattle.table.proofs.scan.count_if.Tie as tie
 
-wrapping-add-u32-requires : tie.Need-wrapping-add-u32-requires
-wrapping-add-u32-requires c κs = search needs
-
 returns : tie.Need-returns
 returns c = simp (c .before .if1 .taken) (c .wrapping-add-u32 .ensures)
 
-returns-2 : tie.Need-returns-2
-returns-2 c = search needs
-
 pub count-if-spec : {M : Type 1} → statement M
-count-if-spec = tie.close (tie.spec wrapping-add-u32-requires returns returns-2)
+count-if-spec = tie.close (tie.spec (λ c κs. search needs) returns (λ c. search needs))

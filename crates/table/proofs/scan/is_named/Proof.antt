@@ -8,18 +8,12 @@ use borrow.Author.Needs.{needs}
 use Rattle.table.proofs.scan.is_named.Statement.{statement}
 use Rattle.table.proofs.scan.is_named.Tie as tie
 
-is-live-requires : tie.Need-is-live-requires
-is-live-requires c κs = search needs
-
 returns : tie.Need-returns
 unfolding holdsPeer
 returns c =
     let a = c .before .before .args in
     let gone : isLive (a .time) (a .s .status) ≡ false = sym (c .before .is-live .ensures) ∙ not-true _ (c .if1 .taken) in
     rw gone
-
-same-name-requires : tie.Need-same-name-requires
-same-name-requires c κs = search needs
 
 returns-2 : tie.Need-returns-2
 unfolding holdsPeer
@@ -29,4 +23,4 @@ returns-2 c =
     rw live (c .same-name .ensures)
 
 pub is-named-spec : {M : Type 1} → statement M
-is-named-spec = tie.close (tie.spec is-live-requires returns same-name-requires returns-2)
+is-named-spec = tie.close (tie.spec (λ c κs. search needs) returns (λ c κs. search needs) returns-2)

@@ -6,9 +6,6 @@ use borrow.Author.Needs.{needs}
 use Rattle.table.proofs.scan.slot_found.Statement.{statement}
 use Rattle.table.proofs.scan.slot_found.Tie as tie
 
-free-slot-requires : tie.Need-free-slot-requires
-free-slot-requires c κs = search needs
-
 returns : tie.Need-returns
 returns c = simp (lt-ltb (c .before .args .i) 64 (omega arith))
 
@@ -16,4 +13,4 @@ returns-2 : tie.Need-returns-2
 returns-2 c = simp (le-ltb (c .before .before .args .i) 64 (omega arith)) (c .free-slot .ensures)
 
 pub slot-found-spec : {M : Type 1} → statement M
-slot-found-spec = tie.close (tie.spec free-slot-requires returns returns-2)
+slot-found-spec = tie.close (tie.spec (λ c κs. search needs) returns returns-2)

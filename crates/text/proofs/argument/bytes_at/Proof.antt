@@ -12,8 +12,4 @@ returns c =
 pub bytes-at-spec : {M : Type 1} → statement M
 bytes-at-spec =
     tie.close
-    (tie.spec
-    (λ c κs. search needs)
-    (λ c κs. search needs)
-    (λ c. search needs)
-    returns)
+    (tie.spec (λ c κs. search needs) (λ c κs. search needs) (λ c. search needs) returns)

@@ -10,7 +10,4 @@ returns c = rw (c .before .word-at .ensures) at (c .read-number16 .ensures)
 pub port-at-spec : {M : Type 1} → statement M
 port-at-spec =
     tie.close
-    (tie.spec
-    (λ c κs. search needs)
-    (λ c κs. search needs)
-    returns)
+    (tie.spec (λ c κs. search needs) (λ c κs. search needs) returns)

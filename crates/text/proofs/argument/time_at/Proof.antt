@@ -10,7 +10,4 @@ returns c = rw (c .before .word-at .ensures) at (c .read-number .ensures)
 pub time-at-spec : {M : Type 1} → statement M
 time-at-spec =
     tie.close
-    (tie.spec
-    (λ c κs. search needs)
-    (λ c κs. search needs)
-    returns)
+    (tie.spec (λ c κs. search needs) (λ c κs. search needs) returns)

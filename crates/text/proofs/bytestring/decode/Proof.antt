@@ -21,47 +21,17 @@ abbrev μ-loop : tie.MeasureT-loop
 loop-holds : tie.Need-loop-holds Inv-loop μ-loop
 loop-holds c = (sym (half (c .before .before .args .word .now)), (search needs, (refl, refl)))
 
-mul-nibble : tie.Need-mul-nibble Inv-loop μ-loop
-mul-nibble c = search needs
-
-shared-slice-read-nibble : tie.Need-shared-slice-read-nibble Inv-loop μ-loop
-shared-slice-read-nibble c = search needs
-
-nibble-requires : tie.Need-nibble-requires Inv-loop μ-loop
-nibble-requires c κs = search needs
-
 mul-out : tie.Need-mul-out Inv-loop μ-loop
 mul-out c =
     let s = c .before .before .before .before .before .before .args .word .now in
     let i = c .before .before .before .loop .i in
     omega (arith, below-sixteen s (c .before .before .before .before .before .before .pre .0) (2 * i) (omega arith))
 
-mul-nibble-2 : tie.Need-mul-nibble-2 Inv-loop μ-loop
-mul-nibble-2 c = search needs
-
-add-nibble : tie.Need-add-nibble Inv-loop μ-loop
-add-nibble c = search needs
-
-shared-slice-read-nibble-2 : tie.Need-shared-slice-read-nibble-2 Inv-loop μ-loop
-shared-slice-read-nibble-2 c = search needs
-
-nibble-requires-2 : tie.Need-nibble-requires-2 Inv-loop μ-loop
-nibble-requires-2 c κs = search needs
-
 add-out : tie.Need-add-out Inv-loop μ-loop
 add-out c =
     let s = c .before .before .before .before .before .before .before .before .args .word .now in
     let i = c .before .before .before .before .before .loop .i in
     omega (arith, below-sixteen s (c .before .before .before .before .before .before .before .before .pre .0) (2 * i) (omega arith), below-sixteen s (c .before .before .before .before .before .before .before .before .pre .0) (2 * i + 1) (omega arith))
-
-slice-write-out : tie.Need-slice-write-out Inv-loop μ-loop
-slice-write-out c = search needs
-
-add-i : tie.Need-add-i Inv-loop μ-loop
-add-i c = search needs
-
-loop-less : tie.Need-loop-less Inv-loop μ-loop
-loop-less c = search needs
 
 loop-again : tie.Need-loop-again Inv-loop μ-loop
 loop-again c =
@@ -80,9 +50,6 @@ loop-again c =
       ),
     )
 
-same-length : tie.Need-same-length Inv-loop μ-loop
-same-length c = search needs
-
 returns : tie.Need-returns Inv-loop μ-loop
 returns c =
     let q = c .before .loop in
@@ -94,21 +61,6 @@ pub decode-spec : {M : Type 1} → statement M
 decode-spec =
     tie.close
     (tie.spec
-    Inv-loop
-    μ-loop
-    loop-holds
-    mul-nibble
-    shared-slice-read-nibble
-    nibble-requires
-    mul-out
-    mul-nibble-2
-    add-nibble
-    shared-slice-read-nibble-2
-    nibble-requires-2
-    add-out
-    slice-write-out
-    add-i
-    loop-less
-    loop-again
-    same-length
-    returns)
+    Inv-loop μ-loop loop-holds (λ c. search needs) (λ c. search needs) (λ c κs. search needs) mul-out
+    (λ c. search needs) (λ c. search needs) (λ c. search needs) (λ c κs. search needs) add-out (λ c. search needs)
+    (λ c. search needs) (λ c. search needs) loop-again (λ c. search needs) returns)

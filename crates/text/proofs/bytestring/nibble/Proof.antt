@@ -25,9 +25,6 @@ returns-3 c =
     let b = c .before .before .before .args .b in
     simp (le-leb 48 b (omega arith), lt-leb b 57 (omega arith), lt-leb 65 b (omega arith), lt-leb 97 b (omega arith))
 
-sub-result : tie.Need-sub-result
-sub-result c = search needs
-
 returns-4 : tie.Need-returns-4
 unfolding nibble
 returns-4 c =
@@ -39,9 +36,6 @@ unfolding nibble
 returns-5 c =
     let b = c .before .before .before .before .before .args .b in
     simp (le-leb 48 b (omega arith), lt-leb b 57 (omega arith), le-leb 65 b (omega arith), lt-leb b 70 (omega arith), lt-leb 97 b (omega arith))
-
-sub-result-2 : tie.Need-sub-result-2
-sub-result-2 c = search needs
 
 returns-6 : tie.Need-returns-6
 unfolding nibble
@@ -59,12 +53,4 @@ pub nibble-spec : {M : Type 1} → statement M
 nibble-spec =
     tie.close
     (tie.spec
-    returns
-    returns-2
-    returns-3
-    sub-result
-    returns-4
-    returns-5
-    sub-result-2
-    returns-6
-    returns-7)
+    returns returns-2 returns-3 (λ c. search needs) returns-4 returns-5 (λ c. search needs) returns-6 returns-7)

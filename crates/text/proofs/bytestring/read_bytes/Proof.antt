@@ -12,12 +12,6 @@ use Rattle.text.proofs.PairBytes.{half, hex-empty, hex-odd, hex-other, 
 use Rattle.text.proofs.bytestring.read_bytes.Statement.{statement}
 use Rattle.text.proofs.bytestring.read_bytes.Tie as tie
 
-slice-aggregate-is-word : tie.Need-slice-aggregate-is-word
-slice-aggregate-is-word c = search needs
-
-is-word-requires : tie.Need-is-word-requires
-is-word-requires c κs = search needs
-
 returns : tie.Need-returns
 returns c =
     let g = c .before .before .before .before .before .args in
@@ -39,9 +33,6 @@ returns-4 c =
     let h : length (g .out .now) < length (pairBytes (g .word .now)) = omega (arith, half (g .word .now)) in
     buffer (g .word .now) (g .out .now) _ _ (bad-long (g .word .now) _ (sym (c .before .before .before .before .is-word .ensures) ∙ c .before .before .before .if1 .left) h)
 
-is-hex-requires : tie.Need-is-hex-requires
-is-hex-requires c κs = search needs
-
 returns-5 : tie.Need-returns-5
 returns-5 c =
     let g = c .before .before .before .before .before .before .before .before .before .before .args in
@@ -50,9 +41,6 @@ returns-5 c =
 
 decode-requires : tie.Need-decode-requires
 decode-requires c κs = (sym (c .before .before .is-hex .ensures) ∙ not-false _ (c .before .if5 .left), omega (arith, half (c .before .before .before .before .before .before .before .before .before .before .before .args .word .now)))
-
-same-length : tie.Need-same-length
-same-length c = search needs
 
 returns-6 : tie.Need-returns-6
 returns-6 c =
@@ -67,14 +55,5 @@ pub read-bytes-spec : {M : Type 1} → statement M
 read-bytes-spec =
     tie.close
     (tie.spec
-    slice-aggregate-is-word
-    is-word-requires
-    returns
-    returns-2
-    returns-3
-    returns-4
-    is-hex-requires
-    returns-5
-    decode-requires
-    same-length
-    returns-6)
+    (λ c. search needs) (λ c κs. search needs) returns returns-2 returns-3 returns-4 (λ c κs. search needs)
+    returns-5 decode-requires (λ c. search needs) returns-6)

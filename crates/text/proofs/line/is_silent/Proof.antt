@@ -26,11 +26,8 @@ first-byte (b ∷ s) h = refl
 returns : tie.Need-returns
 returns c = empty _ (search needs)
 
-shared-slice-read-result : tie.Need-shared-slice-read-result
-shared-slice-read-result c = search needs
-
 returns-2 : tie.Need-returns-2
 returns-2 c = first-byte _ (search needs)
 
 pub is-silent-spec : {M : Type 1} → statement M
-is-silent-spec = tie.close (tie.spec returns shared-slice-read-result returns-2)
+is-silent-spec = tie.close (tie.spec returns (λ c. search needs) returns-2)

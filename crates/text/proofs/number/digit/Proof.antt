@@ -15,12 +15,9 @@ returns-2 : tie.Need-returns-2
 unfolding digit
 returns-2 c = simp (le-leb 48 (c .before .before .args .b) (omega arith), lt-leb (c .before .before .args .b) 57 (omega arith))
 
-cast-result : tie.Need-cast-result
-cast-result c = search needs
-
 returns-3 : tie.Need-returns-3
 unfolding digit
 returns-3 c = simp (le-leb 48 (c .before .before .args .b) (omega arith), le-leb (c .before .before .args .b) 57 (omega arith))
 
 pub digit-spec : {M : Type 1} → statement M
-digit-spec = tie.close (tie.spec returns returns-2 cast-result returns-3)
+digit-spec = tie.close (tie.spec returns returns-2 (λ c. search needs) returns-3)

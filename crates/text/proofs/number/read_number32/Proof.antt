@@ -8,9 +8,6 @@ use borrow.Author.Needs.{needs}
 use Rattle.text.proofs.number.read_number32.Statement.{statement}
 use Rattle.text.proofs.number.read_number32.Tie as tie
 
-enum-told : tie.Need-enum-told
-enum-told c = search needs
-
 cast-t5 : tie.Need-cast-t5
 cast-t5 c = omega (arith, at-most _ _ _ (sym (c .before .v .given .1) ∙ c .before .before .before .read-number .ensures))
 
@@ -25,5 +22,4 @@ returns-2 c = ap as32 (sym (c .before .v .given .1) ∙ c .before .before .befor
 pub read-number32-spec : {M : Type 1} → statement M
 read-number32-spec =
     tie.close
-    (tie.spec
-    (λ c κs. search needs) enum-told (λ c. search needs) cast-t5 returns returns-2)
+    (tie.spec (λ c κs. search needs) (λ c. search needs) (λ c. search needs) cast-t5 returns returns-2)

@@ -10,24 +10,12 @@ use borrow.Author.Needs.{needs}
 use Rattle.text.proofs.part.rest.Statement.{statement}
 use Rattle.text.proofs.part.rest.Tie as tie
 
-sub-result : tie.Need-sub-result
-sub-result c = search needs
-
-part-result-start : tie.Need-part-result-start
-part-result-start c = search needs
-
-part-result-end : tie.Need-part-result-end
-part-result-end c = search needs
-
 returns : tie.Need-returns
 returns c =
     let n : ℕ = c .before .before .args .n in
     let s : List ℕ = c .before .before .args .bytes .now in
     let h : length (drop n s) ≤ length s - n = simp length-drop (omega arith) in
     take-all (length s - n) (drop n s) h
-
-slice-aggregate-result : tie.Need-slice-aggregate-result
-slice-aggregate-result c = search needs
 
 returns-2 : tie.Need-returns-2
 returns-2 c = sym (drop-of-length-le _ (c .before .if1 .left))
@@ -36,9 +24,4 @@ pub rest-spec : {M : Type 1} → statement M
 rest-spec =
     tie.close
     (tie.spec
-    sub-result
-    part-result-start
-    part-result-end
-    returns
-    slice-aggregate-result
-    returns-2)
+    (λ c. search needs) (λ c. search needs) (λ c. search needs) returns (λ c. search needs) returns-2)

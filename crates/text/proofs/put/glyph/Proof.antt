@@ -5,12 +5,6 @@ use borrow.Author.Tests.{lt-ltb, le-ltb}
 use Rattle.text.proofs.put.glyph.Statement.{statement}
 use Rattle.text.proofs.put.glyph.Tie as tie
 
-add-result : tie.Need-add-result
-add-result c = search needs
-
-add-result-2 : tie.Need-add-result-2
-add-result-2 c = search needs
-
 returns : tie.Need-returns
 returns c = rw (lt-ltb (c .before .args .d) 10 (c .if1 .taken))
 
@@ -18,4 +12,4 @@ returns-2 : tie.Need-returns-2
 returns-2 c = rw (le-ltb (c .before .args .d) 10 (c .if1 .left))
 
 pub glyph-spec : {M : Type 1} → statement M
-glyph-spec = tie.close (tie.spec add-result add-result-2 returns returns-2)
+glyph-spec = tie.close (tie.spec (λ c. search needs) (λ c. search needs) returns returns-2)

@@ -6,25 +6,10 @@ use borrow.Author.Needs.{needs}
 use Rattle.text.proofs.put.put_bytes.Statement.{statement}
 use Rattle.text.proofs.put.put_bytes.Tie as tie
 
-slice-aggregate-put : tie.Need-slice-aggregate-put
-slice-aggregate-put c = search needs
-
-put-requires : tie.Need-put-requires
-put-requires c κs = search needs
-
-same-length : tie.Need-same-length
-same-length c = search needs
-
 returns : tie.Need-returns
 returns c =
     let a = c .before .before .before .before .before .before .before .before .args in
     rw (word-none (a .src .now) (omega arith)) (c .before .before .put .ensures)
-
-put-hex-requires : tie.Need-put-hex-requires
-put-hex-requires c κs = search needs
-
-same-length-2 : tie.Need-same-length-2
-same-length-2 c = search needs
 
 returns-2 : tie.Need-returns-2
 returns-2 c =
@@ -35,10 +20,5 @@ pub put-bytes-spec : {M : Type 1} → statement M
 put-bytes-spec =
     tie.close
     (tie.spec
-    slice-aggregate-put
-    put-requires
-    same-length
-    returns
-    put-hex-requires
-    same-length-2
-    returns-2)
+    (λ c. search needs) (λ c κs. search needs) (λ c. search needs) returns (λ c κs. search needs)
+    (λ c. search needs) returns-2)

@@ -7,18 +7,6 @@ use borrow.Author.Needs.{needs}
 use Rattle.text.proofs.put.put_bytes_field.Statement.{statement}
 use Rattle.text.proofs.put.put_bytes_field.Tie as tie
 
-put-bytes-requires : tie.Need-put-bytes-requires
-put-bytes-requires c κs = search needs
-
-slice-aggregate-put : tie.Need-slice-aggregate-put
-slice-aggregate-put c = search needs
-
-put-requires : tie.Need-put-requires
-put-requires c κs = search needs
-
-same-length : tie.Need-same-length
-same-length c = search needs
-
 returns : tie.Need-returns
 returns c =
     let a = c .before .before .before .before .before .before .before .before .before .before .before .args in
@@ -26,4 +14,6 @@ returns c =
 
 pub put-bytes-field-spec : {M : Type 1} → statement M
 put-bytes-field-spec =
-    tie.close (tie.spec put-bytes-requires slice-aggregate-put put-requires same-length returns)
+    tie.close
+    (tie.spec
+    (λ c κs. search needs) (λ c. search needs) (λ c κs. search needs) (λ c. search needs) returns)

@@ -26,24 +26,6 @@ loop-holds c =
     let a = c .before .before .args in
     (omega arith, put-none (a .out .now) (a .at))
 
-shared-slice-read-digits-of : tie.Need-shared-slice-read-digits-of Inv-loop μ-loop
-shared-slice-read-digits-of c = search needs
-
-digits-of-requires : tie.Need-digits-of-requires Inv-loop μ-loop
-digits-of-requires c κs = search needs
-
-slice-aggregate-put : tie.Need-slice-aggregate-put Inv-loop μ-loop
-slice-aggregate-put c = search needs
-
-put-requires : tie.Need-put-requires Inv-loop μ-loop
-put-requires c κs = search needs
-
-add-i : tie.Need-add-i Inv-loop μ-loop
-add-i c = search needs
-
-loop-less : tie.Need-loop-less Inv-loop μ-loop
-loop-less c = search needs
-
 loop-again : tie.Need-loop-again Inv-loop μ-loop
 loop-again c =
     let a = c .before .before .before .before .before .before .before .before .before .before .before .args in
@@ -70,15 +52,5 @@ pub put-hex-spec : {M : Type 1} → statement M
 put-hex-spec =
     tie.close
     (tie.spec
-    Inv-loop
-    μ-loop
-    loop-holds
-    shared-slice-read-digits-of
-    digits-of-requires
-    slice-aggregate-put
-    put-requires
-    add-i
-    loop-less
-    loop-again
-    same-length
-    returns)
+    Inv-loop μ-loop loop-holds (λ c. search needs) (λ c κs. search needs) (λ c. search needs)
+    (λ c κs. search needs) (λ c. search needs) (λ c. search needs) loop-again same-length returns)

@@ -14,9 +14,4 @@ returns-2 c = rw (rw (c .before .before .word-at .ensures) at (sym (c .before .i
 pub is-call-spec : {M : Type 1} → statement M
 is-call-spec =
     tie.close
-    (tie.spec
-    (λ c κs. search needs)
-    (λ c κs. search needs)
-    (λ c κs. search needs)
-    returns
-    returns-2)
+    (tie.spec (λ c κs. search needs) (λ c κs. search needs) (λ c κs. search needs) returns returns-2)

@@ -20,12 +20,6 @@ abbrev μ-loop : tie.MeasureT-loop
 loop-holds : tie.Need-loop-holds Inv-loop μ-loop
 loop-holds c = (refl, (search needs, (search needs, ap (λ (j : ℕ). wordAt j (c .before .args .line .now)) (sym (sub-zero (c .before .args .place))))))
 
-find-requires : tie.Need-find-requires Inv-loop μ-loop
-find-requires c κs = search needs
-
-slice-aggregate-result : tie.Need-slice-aggregate-result Inv-loop μ-loop
-slice-aggregate-result c = search needs
-
 returns : tie.Need-returns Inv-loop μ-loop
 returns c =
     let g = c .before .before .before .before .before .before .args in
@@ -34,15 +28,6 @@ returns c =
     let k : g .place - q .k ≡ suc (g .place - (q .k + 1)) = omega arith in
     sym (q .inv .1 .1 .1 ∙ ap (λ (j : ℕ). wordAt j (drop (q .from) (g .line .now))) k ∙ word-none (g .line .now) (q .from) _ e (g .place - (q .k + 1)) (omega arith))
 
-add-from : tie.Need-add-from Inv-loop μ-loop
-add-from c = search needs
-
-add-k : tie.Need-add-k Inv-loop μ-loop
-add-k c = search needs
-
-loop-less : tie.Need-loop-less Inv-loop μ-loop
-loop-less c = search needs
-
 loop-again : tie.Need-loop-again Inv-loop μ-loop
 loop-again c =
     let g = c .before .before .before .before .before .args in
@@ -50,18 +35,6 @@ loop-again c =
     let e = c .before .find .ensures .0 in
     let k : g .place - q .k ≡ suc (g .place - (q .k + 1)) = omega arith in
     (refl, (omega arith, (omega arith, q .inv .1 .1 .1 ∙ ap (λ (j : ℕ). wordAt j (drop (q .from) (g .line .now))) k ∙ word-later (g .line .now) (q .from) _ e (g .place - (q .k + 1)))))
-
-find-requires-2 : tie.Need-find-requires-2 Inv-loop μ-loop
-find-requires-2 c κs = search needs
-
-sub-result : tie.Need-sub-result Inv-loop μ-loop
-sub-result c = search needs
-
-part-result-start : tie.Need-part-result-start Inv-loop μ-loop
-part-result-start c = search needs
-
-part-result-end : tie.Need-part-result-end Inv-loop μ-loop
-part-result-end c = search needs
 
 returns-2 : tie.Need-returns-2 Inv-loop μ-loop
 returns-2 c =
@@ -75,18 +48,6 @@ pub word-at-spec : {M : Type 1} → statement M
 word-at-spec =
     tie.close
     (tie.spec
-    Inv-loop
-    μ-loop
-    loop-holds
-    find-requires
-    slice-aggregate-result
-    returns
-    add-from
-    add-k
-    loop-less
-    loop-again
-    find-requires-2
-    sub-result
-    part-result-start
-    part-result-end
-    returns-2)
+    Inv-loop μ-loop loop-holds (λ c κs. search needs) (λ c. search needs) returns (λ c. search needs)
+    (λ c. search needs) (λ c. search needs) loop-again (λ c κs. search needs) (λ c. search needs)
+    (λ c. search needs) (λ c. search needs) returns-2)

@@ -26,6 +26,7 @@ loop-again c = (omega (arith, c .before .before .before .before .before .before 
 pub complete-and-close-spec : {M : Type 1} → statement M
 complete-and-close-spec =
     tie.close
-    (tie.spec Inv-loop μ-loop (λ c. search needs) (λ c. search needs) (λ c κs. search needs) (λ c κs. search needs) (λ c κs. search needs)
-    (λ c. search needs) (λ c κs. search needs) (λ c κs. search needs) (λ c κs. search needs) (λ c κs. search needs) add-turn loop-less loop-again
-    (λ c. search needs))
+    (tie.spec
+    Inv-loop μ-loop (λ c. search needs) (λ c. search needs) (λ c κs. search needs) (λ c κs. search needs)
+    (λ c κs. search needs) (λ c. search needs) (λ c κs. search needs) (λ c κs. search needs)
+    (λ c κs. search needs) (λ c κs. search needs) add-turn loop-less loop-again (λ c. search needs))

@@ -20,5 +20,7 @@ add-turn c = omega (arith, c .before .before .before .before .before .before .be
 pub open-and-abandon-spec : {M : Type 1} → statement M
 open-and-abandon-spec =
     tie.close
-    (tie.spec Inv-loop μ-loop (λ c. search needs) (λ c κs. search needs) (λ c. search needs) (λ c κs. search needs) (λ c κs. search needs)
-    (λ c κs. search needs) (λ c κs. search needs) add-turn (λ c. search needs) (λ c. search needs) (λ c. search needs))
+    (tie.spec
+    Inv-loop μ-loop (λ c. search needs) (λ c κs. search needs) (λ c. search needs) (λ c κs. search needs)
+    (λ c κs. search needs) (λ c κs. search needs) (λ c κs. search needs) add-turn (λ c. search needs)
+    (λ c. search needs) (λ c. search needs))
