@@ -14,7 +14,7 @@ use Rattle.client_player.specs.Request.{Request, requestIn}
 use Rattle.client_player.specs.Line.{outcomeLine}
 use Rattle.client_player.specs.Play.{outcomeOf, lentTo, lentAfter, playingWith, requestPlaying, playedIn}
 use Rattle.client_player.specs.Order.{outLen, requestWith, requestRead}
-use Rattle.client_player.specs.declared.play.Reply.the-variants.{Number}
+use Rattle.text.specs.declared.line.Reply.the-variants.{Number}
 use Rattle.client_player.specs.declared.play.Played.{Played}
 use Rattle.client_player.specs.declared.read.Reading.{Reading}
 use Rattle.client_player.specs.declared.read.Reading.the-variants.{Known}

@@ -2,7 +2,7 @@
 -- Assumes nothing.
 use Prim.Native.Nat.{ℕ}
 use mathlib.Core.Bool.{cond}
-use mathlib.Core.List.{List, [], _∷_}
+use mathlib.Core.List.{List, []}
 use mathlib.Core.Option.{Option, none, some}
 use lib.Dec.{ltb}
 use lib.ListN.{length, replicate}
@@ -13,11 +13,11 @@ use Rattle.client.specs.declared.outcome.Started.{Started}
 use Rattle.client.specs.Call.{connect, answer, failed, numberOfEvent}
 use Rattle.client.specs.Step.{startOf, step, outputOf}
 use Rattle.text.specs.Line.{longest, isSilent}
-use Rattle.text.specs.Put.{placeAfter}
+use Rattle.text.specs.Put.{placeAfter, badLine}
 use Rattle.client_player.specs.Request.{Request, start, call, requestIn}
 use Rattle.client_player.specs.Line.{outcomeLine, eventOf}
-use Rattle.client_player.specs.declared.play.Reply.{Reply}
-use Rattle.client_player.specs.declared.play.Reply.the-variants.{Silent, Bad, Number}
+use Rattle.text.specs.declared.line.Reply.{Reply}
+use Rattle.text.specs.declared.line.Reply.the-variants.{Silent, Bad, Number}
 use Rattle.client_player.specs.declared.play.Played.{Played}
 
 -- A start's outcome is that of a report.
@@ -56,9 +56,9 @@ outcomePlaying o lent = record { memory = o .memory; reply = Number (numberOfEve
 abbrev pub playingWith : Memory → Request → List ℕ → Playing
 playingWith m q lent = outcomePlaying (outcomeOf m q) (lentAfter m q lent)
 
--- a bad line's text is `bad line`, and nothing has changed
+-- a bad line changes nothing
 abbrev pub badPlaying : Memory → Playing
-badPlaying m = record { memory = m; reply = Bad; text = 98 ∷ 97 ∷ 100 ∷ 32 ∷ 108 ∷ 105 ∷ 110 ∷ 101 ∷ 10 ∷ [] }
+badPlaying m = record { memory = m; reply = Bad; text = badLine }
 
 abbrev pub requestPlaying : Memory → Option Request → Playing
 requestPlaying m none = badPlaying m

@@ -16,28 +16,20 @@ use client::outcome::Started;
 use client::outcome::event_number;
 use client::state::Memory;
 use text::line::LONGEST;
+use text::line::MOST_BYTES;
+use text::line::Reply;
 use text::line::is_silent;
 use text::output::FILL;
 use text::output::MOST_OUTPUT;
 use text::part::first;
 use text::part::first_mut;
-use text::put::put;
+use text::put::put_bad_line;
 ghost use mathlib.Core.Path.{_≡_};
 ghost use lib.ListN.{length};
 ghost use Rattle.text.specs.Put.{laid};
 ghost use Rattle.client_player.specs.Request.{requestIn};
 ghost use Rattle.client_player.specs.Play.{startOutcome, outcomeOf, lentAfter, playingWith, badPlaying, requestPlaying, playing, playedIn};
 ghost use Rattle.client_player.specs.Order.{requestWith};
-
-// The most bytes that a word of a line stands for, at two digits each.
-const BYTES: usize = LONGEST / 2;
-
-// The number that the call returned, 0 where it is done; or that the line was bad, or prints nothing.
-pub enum Reply {
-    Silent,
-    Bad,
-    Number(u8),
-}
 
 // The memory next, the reply, and how many bytes of text were put.
 pub struct Played {
@@ -127,7 +119,7 @@ fn bad_line(m: Memory, text: &mut [u8]) -> Played
     ensures { λ r. ⌜ r ≡ playedIn (length (now (text .entry))) (badPlaying m) ⌝ }
     ensures { λ _. ⌜ now (text .exit) ≡ laid 0 (badPlaying m .text) (now (text .entry)) ⌝ }
 {
-    let len = put(text, 0, b"bad line\n");
+    let len = put_bad_line(text, 0);
     Played {
         memory: m,
         reply: Reply::Bad,
@@ -139,9 +131,9 @@ fn play_request(m: Memory, line: &[u8], text: &mut [u8]) -> Played
     ensures { λ r. ⌜ r ≡ playedIn (length (now (text .entry))) (requestPlaying m (requestIn (now (line .entry)))) ⌝ }
     ensures { λ _. ⌜ now (text .exit) ≡ laid 0 (requestPlaying m (requestIn (now (line .entry))) .text) (now (text .entry)) ⌝ }
 {
-    let mut a = [0u8; BYTES];
-    let mut b = [0u8; BYTES];
-    let mut d = [0u8; BYTES];
+    let mut a = [0u8; MOST_BYTES];
+    let mut b = [0u8; MOST_BYTES];
+    let mut d = [0u8; MOST_BYTES];
     let mut out = [FILL; MOST_OUTPUT];
     match read_request(line, &mut a, &mut b, &mut d) {
         Reading::Bad => bad_line(m, text),

@@ -15,7 +15,7 @@ use Rattle.player.specs.Request.{Request, releasing, requestIn}
 use Rattle.player.specs.Line.{outcomeLine}
 use Rattle.player.specs.Play.{outcomeOf, lentTo, lentAfter, broughtBy, playingWith, requestPlaying, playedIn}
 use Rattle.player.specs.Order.{outLen, segLen, requestWith, requestRead}
-use Rattle.player.specs.declared.play.Reply.the-variants.{Number}
+use Rattle.text.specs.declared.line.Reply.the-variants.{Number}
 use Rattle.player.specs.declared.play.Played.{Played}
 use Rattle.player.specs.declared.read.Reading.{Reading}
 use Rattle.player.specs.declared.read.Reading.the-variants.{Known}

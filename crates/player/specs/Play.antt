@@ -2,7 +2,7 @@
 -- Assumes nothing.
 use Prim.Native.Nat.{ℕ}
 use mathlib.Core.Bool.{cond}
-use mathlib.Core.List.{List, [], _∷_}
+use mathlib.Core.List.{List, []}
 use mathlib.Core.Option.{Option, none, some}
 use lib.Dec.{ltb}
 use lib.ListN.{length, replicate}
@@ -13,11 +13,11 @@ use Rattle.protocol.specs.declared.outcome.Started.{Started}
 use Rattle.protocol.specs.Call.{segment, settings, key, abandon, resend, close, numberOfEvent, acceptedPart}
 use Rattle.protocol.specs.Step.{startOf, step, outputOf}
 use Rattle.text.specs.Line.{longest, isSilent}
-use Rattle.text.specs.Put.{placeAfter}
+use Rattle.text.specs.Put.{placeAfter, badLine}
 use Rattle.player.specs.Request.{Request, start, call, requestIn}
 use Rattle.player.specs.Line.{outcomeLine, eventOf}
-use Rattle.player.specs.declared.play.Reply.{Reply}
-use Rattle.player.specs.declared.play.Reply.the-variants.{Silent, Bad, Number}
+use Rattle.text.specs.declared.line.Reply.{Reply}
+use Rattle.text.specs.declared.line.Reply.the-variants.{Silent, Bad, Number}
 use Rattle.player.specs.declared.play.Played.{Played}
 
 -- A start's outcome is that of any other call that is no segment.
@@ -77,9 +77,9 @@ outcomePlaying o lent seg =
 abbrev pub playingWith : Listener → Request → List ℕ → Playing
 playingWith l q lent = outcomePlaying (outcomeOf l q) (lentAfter l q lent) (broughtBy q)
 
--- a bad line's text is `bad line`, and nothing has changed
+-- a bad line changes nothing
 abbrev pub badPlaying : Listener → Playing
-badPlaying l = record { listener = l; reply = Bad; text = 98 ∷ 97 ∷ 100 ∷ 32 ∷ 108 ∷ 105 ∷ 110 ∷ 101 ∷ 10 ∷ [] }
+badPlaying l = record { listener = l; reply = Bad; text = badLine }
 
 abbrev pub requestPlaying : Listener → Option Request → Playing
 requestPlaying l none = badPlaying l

@@ -6,7 +6,7 @@ use mathlib.Core.List.{List, [], _∷_}
 use mathlib.Core.Option.{Option, none, some}
 use Rattle.lists.specs.Bytes.{sameBytes}
 use Rattle.protocol.specs.declared.state.Settings.{Settings}
-use Rattle.protocol.specs.Call.{Call, segment, settings, key, abandon, resend, close}
+use Rattle.protocol.specs.Call.{Call, segment, settings, key, resend}
 use Rattle.protocol.specs.Refusals.{releaseOf}
 use Rattle.text.specs.Word.{wordAt}
 use Rattle.text.specs.Argument.{timeAt, portAt, numberAt, outAt, bytesAt, _⊛_, isCall, firstCase}

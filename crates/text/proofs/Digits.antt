@@ -1,15 +1,15 @@
 -- A number's digits and a byte string's, as they are put. Assumes nothing.
-use Prim.Native.Nat.{ℕ, zero, suc, _+_, _-_, _*_, _/_, _%_, _^_, _≤_, _<_}
+use Prim.Native.Nat.{ℕ, zero, suc, _+_, _-_, _/_, _%_, _^_, _≤_, _<_}
 use mathlib.Core.Path.{_≡_, refl, ap}
 use mathlib.Core.Bool.{Bool, true, false}
 use mathlib.Core.List.{List, [], _∷_, _++_}
 use native.Mathlib.Omega.{arith}
 use native.Mathlib.Nat.{pow-suc, one-le-pow, pow-le-pow-right}
-use lib.Dec.{ltb, leb}
+use lib.Dec.{leb}
 use lib.ListN.{length}
 use borrow.Author.Tests.{leb-true, leb-false, lt-ltb, le-ltb}
 use Rattle.io.specs.Digits.{digits, Fewest}
-use Rattle.text.specs.Number.{valueFrom, digitsOf, decimal}
+use Rattle.text.specs.Number.{digitsOf, decimal}
 use Rattle.text.specs.ByteString.{hexDigit, hexOf, hexWord}
 
 -- ---- decimal digits
@@ -43,23 +43,6 @@ at-most-20 k n h w false e =
 pub decimal-digits : (k n : ℕ) → n < 18446744073709551616 → Fewest 10 1 n k → digits 10 k n ≡ decimal n
 unfolding decimal
 decimal-digits k n h w = fewest-digits k 20 n (at-most-20 k n h w _ refl) w
-
--- the digits of a number say it
-value-append : (n : ℕ) (s t : List ℕ) → valueFrom n (s ++ t) ≡ valueFrom (valueFrom n s) t
-unfolding valueFrom
-value-append n [] t = refl
-value-append n (b ∷ s) t = value-append (n * 10 + (b - 48)) s t
-
--- one digit, or the last of several
-value-step : (f n : ℕ) → valueFrom 0 (digitsOf f (n / 10)) ≡ n / 10 → (t : Bool) → ltb n 10 ≡ t → valueFrom 0 (digitsOf (suc f) n) ≡ n
-unfolding digitsOf valueFrom
-value-step f n w true e = rw e (omega arith)
-value-step f n w false e = rw (e, value-append 0 (digitsOf f (n / 10)), w) (omega arith)
-
-value-digits : (f n : ℕ) → n < 10 ^ f → valueFrom 0 (digitsOf f n) ≡ n
-unfolding digitsOf valueFrom
-value-digits zero n h = omega arith
-value-digits (suc f) n h = value-step f n (value-digits f (n / 10) (omega (arith, pow-suc 10 f))) _ refl
 
 -- ---- hexadecimal digits
 

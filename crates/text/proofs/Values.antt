@@ -8,9 +8,7 @@ use lib.Dec.{leb}
 use lib.ListN.{length}
 use borrow.Author.Tests.{leb-true}
 use Rattle.lists.proofs.Bools.{and-true}
-use Rattle.text.specs.declared.number.Number.{Number}
 use Rattle.text.specs.declared.number.Number.the-variants.{Value, Bad}
-use Rattle.text.specs.declared.bytestring.ByteString.{ByteString}
 use Rattle.text.specs.declared.bytestring.ByteString.the-variants.{Count, Bad as BytesBad}
 use Rattle.text.specs.Number.{isNumber, valueFrom, numberIn}
 use Rattle.text.specs.ByteString.{bytesOf, isReadable, bytesIn, bytesRead}

@@ -35,3 +35,7 @@ fields (word ∷ next ∷ words) = field word ++ fields (next ∷ words)
 abbrev pub restWord : Bool → List ℕ
 restWord true = 107 ∷ 101 ∷ 112 ∷ 116 ∷ []
 restWord false = 99 ∷ 104 ∷ 97 ∷ 110 ∷ 103 ∷ 101 ∷ 100 ∷ []
+
+-- what a line that cannot be read prints: `bad line` and a line feed
+abbrev pub badLine : List ℕ
+badLine = 98 ∷ 97 ∷ 100 ∷ 32 ∷ 108 ∷ 105 ∷ 110 ∷ 101 ∷ 10 ∷ []

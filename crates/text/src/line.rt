@@ -10,6 +10,16 @@ ghost use Rattle.text.specs.Put.{laid};
 // The longest line that is read, its line feed not counted.
 pub const LONGEST: usize = 8192;
 
+// The most bytes that a word of a line stands for, at two digits each.
+pub const MOST_BYTES: usize = LONGEST / 2;
+
+// What is said to a line: nothing, that it is bad, or the number that its call returned, 0 where it is done.
+pub enum Reply {
+    Silent,
+    Bad,
+    Number(u8),
+}
+
 // The length of a line that had `len` bytes and gets `more`. One byte too many counts like any number of them.
 fn length_with(len: usize, more: usize) -> usize
     ensures { λ r. ⌜ r ≡ lengthWith len more ⌝ }

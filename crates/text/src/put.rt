@@ -4,7 +4,7 @@ ghost use mathlib.Core.Path.{_≡_};
 ghost use mathlib.Core.List.{[], _∷_};
 ghost use Prim.Native.Nat.{_/_, _%_, _<_};
 ghost use lib.ListN.{length};
-ghost use Rattle.text.specs.Put.{placeAfter, laid, field, lastField, restWord};
+ghost use Rattle.text.specs.Put.{placeAfter, laid, field, lastField, restWord, badLine};
 ghost use Rattle.text.specs.Number.{decimal};
 ghost use Rattle.text.specs.ByteString.{hexDigit, hexOf, hexWord};
 
@@ -71,6 +71,14 @@ pub fn put_bytes_field(out: &mut [u8], at: usize, src: &[u8]) -> usize
 {
     let next = put_bytes(out, at, src);
     put(out, next, b" ")
+}
+
+// Puts what a line that cannot be read prints.
+pub fn put_bad_line(out: &mut [u8], at: usize) -> usize
+    ensures { λ r. ⌜ r ≡ placeAfter at (length badLine) (length (now (out .entry))) ⌝ }
+    ensures { λ _. ⌜ now (out .exit) ≡ laid at badLine (now (out .entry)) ⌝ }
+{
+    put(out, at, b"bad line\n")
 }
 
 // Puts a line's last word, whether the bytes past the written ones are as they were, and its line feed.

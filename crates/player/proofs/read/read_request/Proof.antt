@@ -1,7 +1,6 @@
 -- `player::read::read_request` meets its contract: the tests say which line it is, and what was read is the request that it is.
 -- Assumes nothing.
 use mathlib.Core.Path.{_≡_, sym, _∙_}
-use mathlib.Core.Bool.{true, false}
 use lib.ListN.{drop}
 use Rattle.text.specs.Argument.{firstCase}
 use Rattle.text.proofs.Arguments.{passed, taken}

@@ -1,6 +1,5 @@
 -- `segment::checksum::total_of` meets its contract.
 -- Assumes nothing.
-use mathlib.Core.Path.{_≡_, _∙_}
 use native.Mathlib.Omega.{arith}
 use Rattle.lists.proofs.Lent.{lent-out}
 use borrow.Author.Needs.{needs}
