@@ -354,7 +354,7 @@ all-follow l j (c ∷ cs) a =
 
 -- The start
 
-fresh-agrees : (own : List ℕ) (port : ℕ) (k : List ℕ) → Agrees (freshListener own port k) (freshJournal k)
+fresh-agrees : (own : List ℕ) (port : ℕ) (k : List ℕ) → Agrees (freshListener own port k) (freshJournal own port k)
 fresh-agrees own port k = record { started = refl; time = refl; settings = refl; present = refl; previous = refl; table = blank (familyOf (length own)) }
   where
     blank : (f : Family) → Table f 0 (replicate 64 freeSlot) []
@@ -366,15 +366,15 @@ fresh-agrees own port k = record { started = refl; time = refl; settings = refl;
         }
 
 -- a start that is done
-begins : (own : List ℕ) (port : ℕ) (k : List ℕ) → startOf own port k .check ≡ Clear → Agrees (startOf own port k .listener) (freshJournal k)
+begins : (own : List ℕ) (port : ℕ) (k : List ℕ) → startOf own port k .check ≡ Clear → Agrees (startOf own port k .listener) (freshJournal own port k)
 unfolding startOf
 begins own port k = go (refusal (startChecks own k))
   where
-    go : (r : Check) → startedBy own port k r .check ≡ Clear → Agrees (startedBy own port k r .listener) (freshJournal k)
+    go : (r : Check) → startedBy own port k r .check ≡ Clear → Agrees (startedBy own port k r .listener) (freshJournal own port k)
     go Clear e = fresh-agrees own port k
     go (Refused r) e = absurd (let z : _≡_ {A = ℕ} 0 1 = cc in omega arith)
 
 pub demand3 : (own : List ℕ) (port : ℕ) (k : List ℕ) (calls : List Call) → startOf own port k .check ≡ Clear → Demand3 own port k calls
 demand3 own port k calls e =
-    let x = all-follow (startOf own port k .listener) (freshJournal k) calls (begins own port k e) in
+    let x = all-follow (startOf own port k .listener) (freshJournal own port k) calls (begins own port k e) in
     record { pending = x .0; verdicts = x .1 }

@@ -53,6 +53,6 @@ journalDecisions j (f ∷ fs) = journalDecision j (f .call) (f .number) ∷ jour
 -- For a start with these arguments and a list of calls
 pub record Demand3 (own : List ℕ) (port : ℕ) (k : List ℕ) (calls : List Call) : Type 0 where
   pub pending : pendingNumber (listenerAfter (startOf own port k .listener) calls)
-      ≡ pendingOf (journalAfter (freshJournal k) (numbered (startOf own port k .listener) calls))
+      ≡ pendingOf (journalAfter (freshJournal own port k) (numbered (startOf own port k .listener) calls))
   pub verdicts : listenerDecisions (startOf own port k .listener) calls
-      ≡ journalDecisions (freshJournal k) (numbered (startOf own port k .listener) calls)
+      ≡ journalDecisions (freshJournal own port k) (numbered (startOf own port k .listener) calls)

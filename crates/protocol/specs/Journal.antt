@@ -37,9 +37,9 @@ pub record Journal : Type 0 where
   pub previous : PreviousKey
   pub entries : List Entry
 
--- At the start, with its key: as in the fresh state.
-abbrev pub freshJournal : List ℕ → Journal
-freshJournal k =
+-- At the start: as in the fresh state.
+abbrev pub freshJournal : List ℕ → ℕ → List ℕ → Journal
+freshJournal own port k =
     record {
       time = 0;
       settings = record { on = false; limit = 0; «early_room» = 0; hold = 0; mss = freshMss };

@@ -1,4 +1,4 @@
--- The value of a sum whose carries are put off, and a checksum that is right by its making. Assumes nothing.
+-- The value of a sum of swapped words whose carries are put off, and a checksum that is right by its making. Assumes nothing.
 use Prim.Native.Nat.{ℕ, _+_, _-_, _*_, _/_, _%_, _^_, _<_, _≤_}
 use mathlib.Core.Path.{_≡_, ap, sym, _∙_}
 use mathlib.Core.List.{List, [], _∷_, _++_}
@@ -9,7 +9,7 @@ use lib.Seq.{length-take-le}
 use Rattle.lists.specs.Bytes.{Bytes}
 use Rattle.segment.specs.Bytes.{be16, word}
 use Rattle.segment.specs.Checksum.{onesAdd, onesSum, complement}
-use Rattle.segment.specs.Totals.{exchanged, total, passTotal, folded}
+use Rattle.segment.specs.Totals.{swapped, total, passTotal, folded}
 use Rattle.lists.proofs.ByteLists.{bytes-append, bytes-take}
 use Rattle.segment.proofs.Total.{total-pass}
 
@@ -25,18 +25,18 @@ full : (t : ℕ) → folded (t + complement (folded t)) ≡ 65535
 unfolding folded
 full t = omega arith
 
--- A word and 256 times the exchanged one fold to the same: 256 * 256 is 1 more than 65535.
-exchange-word : (t a b : ℕ) → folded (t + word a b) ≡ folded (t + 256 * word b a)
+-- A word and 256 times the swapped one fold to the same: 256 * 256 is 1 more than 65535.
+swap-word : (t a b : ℕ) → folded (t + word a b) ≡ folded (t + 256 * word b a)
 unfolding folded
-exchange-word t a b = omega arith
+swap-word t a b = omega arith
 
-exchange-folded : (t : ℕ) → exchanged (folded t) ≡ folded (256 * t)
-unfolding folded exchanged
-exchange-folded t = omega arith
+swap-folded : (t : ℕ) → swapped (folded t) ≡ folded (256 * t)
+unfolding folded swapped
+swap-folded t = omega arith
 
-exchange-added : (sum t : ℕ) → sum < 65536 → folded (256 * (exchanged sum + t)) ≡ folded (sum + 256 * t)
-unfolding folded exchanged
-exchange-added sum t h = omega arith
+swap-added : (sum t : ℕ) → sum < 65536 → folded (256 * (swapped sum + t)) ≡ folded (sum + 256 * t)
+unfolding folded swapped
+swap-added sum t h = omega arith
 
 sum-total : (sum : ℕ) (s : List ℕ) → folded (onesSum sum s) ≡ folded (sum + 256 * total s)
 unfolding onesSum total onesAdd folded
@@ -46,7 +46,7 @@ sum-total sum (a ∷ b ∷ rest) =
     let t = total rest in
     let e : sum + word a b + 256 * t ≡ sum + 256 * t + word a b = omega arith in
     let g : sum + 256 * t + 256 * word b a ≡ sum + 256 * (word b a + t) = omega arith in
-    sum-total (onesAdd sum (word a b)) rest ∙ fold16 (sum + word a b) (256 * t) ∙ ap folded e ∙ exchange-word (sum + 256 * t) a b ∙ ap folded g
+    sum-total (onesAdd sum (word a b)) rest ∙ fold16 (sum + word a b) (256 * t) ∙ ap folded e ∙ swap-word (sum + 256 * t) a b ∙ ap folded g
 
 -- the sum of bytes, from a word, is a word
 sum-small : (sum : ℕ) (s : List ℕ) → sum < 65536 → Bytes s → onesSum sum s < 65536
@@ -60,10 +60,10 @@ sum-folded s b =
     let e : 0 + 256 * total s ≡ 256 * total s = omega arith in
     sym (small (onesSum 0 s) (sum-small 0 s (omega arith) b)) ∙ sum-total 0 s ∙ ap folded e
 
--- a sum and a total of words, all of them exchanged, folded and exchanged again are the sum
-pub run-sum : (sum : ℕ) (s : List ℕ) → sum < 65536 → Bytes s → exchanged (folded (exchanged sum + total s)) ≡ onesSum sum s
+-- a sum and a total of words, all of them swapped, folded and swapped again are the sum
+pub run-sum : (sum : ℕ) (s : List ℕ) → sum < 65536 → Bytes s → swapped (folded (swapped sum + total s)) ≡ onesSum sum s
 run-sum sum s h b =
-    exchange-folded (exchanged sum + total s) ∙ exchange-added sum (total s) h ∙ sym (sum-total sum s) ∙ small (onesSum sum s) (sum-small sum s h b)
+    swap-folded (swapped sum + total s) ∙ swap-added sum (total s) h ∙ sym (sum-total sum s) ∙ small (onesSum sum s) (sum-small sum s h b)
 
 total-append : (a b : List ℕ) → length a % 2 ≡ 0 → total (a ++ b) ≡ total a + total b
 unfolding total
@@ -73,7 +73,7 @@ total-append (x ∷ y ∷ rest) b h = omega (arith, total-append rest b (omega a
 
 -- A pass of n words adds what n steps of the word-by-word sum add.
 pub pass-sum : (n sum : ℕ) (s : List ℕ) → sum < 65536 → Bytes s → 2 * n ≤ length s
-    → exchanged (folded (exchanged sum + passTotal n s 0)) ≡ onesSum sum (take (2 * n) s)
+    → swapped (folded (swapped sum + passTotal n s 0)) ≡ onesSum sum (take (2 * n) s)
 pass-sum n sum s h b m =
     let t = take (2 * n) s in
     let l : length t ≡ 2 * n = length-take-le (2 * n) s m in
@@ -103,5 +103,5 @@ sum-with-complement a b h p q =
     let u : 256 * total (a ++ (x ∷ y ∷ b)) ≡ n + 256 * word y x = omega (arith, total-append a (x ∷ y ∷ b) h) in
     let w = word-back (complement z) (omega arith) in
     let j : z ≡ folded n = sum-folded (a ++ (0 ∷ 0 ∷ b)) (bytes-append a (0 ∷ 0 ∷ b) p (omega arith, (omega arith, q))) ∙ ap folded t in
-    sum-folded (a ++ (x ∷ y ∷ b)) (bytes-append a (x ∷ y ∷ b) p (omega arith, (omega arith, q))) ∙ ap folded u ∙ sym (exchange-word n x y)
+    sum-folded (a ++ (x ∷ y ∷ b)) (bytes-append a (x ∷ y ∷ b) p (omega arith, (omega arith, q))) ∙ ap folded u ∙ sym (swap-word n x y)
     ∙ ap (λ (k : ℕ). folded (n + k)) w ∙ ap (λ (k : ℕ). folded (n + complement k)) j ∙ full n

@@ -1,4 +1,4 @@
--- One turn of a total at a place, and the sum of two parts. Assumes nothing.
+-- The total from a place on: a word, a pass, what is left; its bound; and the sum of two parts. Assumes nothing.
 use Prim.Native.Nat.{ℕ, zero, suc, _+_, _*_, _/_, _%_, _<_, _≤_}
 use mathlib.Core.Path.{_≡_, refl, ap, sym, _∙_}
 use mathlib.Core.List.{List, [], _∷_, _++_}
@@ -9,7 +9,7 @@ use lib.Seq.{drop-cons, drop-drop, length-take-le}
 use Rattle.lists.specs.Bytes.{Bytes}
 use Rattle.segment.specs.Bytes.{byteAt, word}
 use Rattle.segment.specs.Checksum.{onesAdd, onesSum}
-use Rattle.segment.specs.Totals.{exchangedAt, total, passTotal}
+use Rattle.segment.specs.Totals.{swappedAt, total, passTotal}
 
 -- the list from i on, where two more bytes stand, and where one does
 drop-two : (s : List ℕ) (i : ℕ) → i + 1 < length s → drop i s ≡ byteAt s i ∷ byteAt s (i + 1) ∷ drop (i + 2) s
@@ -29,7 +29,7 @@ drop-one s i h =
     drop-cons s i 0 a ∙ ap (λ (t : List ℕ). byteAt s i ∷ t) (drop-of-length-le s b)
 
 -- the total from i on: two more bytes, one, none
-pub total-two : (s : List ℕ) (i : ℕ) → i + 1 < length s → total (drop i s) ≡ exchangedAt s i + total (drop (i + 2) s)
+pub total-two : (s : List ℕ) (i : ℕ) → i + 1 < length s → total (drop i s) ≡ swappedAt s i + total (drop (i + 2) s)
 unfolding total
 total-two s i h = ap total (drop-two s i h)
 

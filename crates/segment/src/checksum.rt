@@ -5,7 +5,7 @@ ghost use mathlib.Core.Bool.{true};
 ghost use Prim.Native.Nat.{_+_, _*_, _≤_, _<_};
 ghost use lib.ListN.{length, drop};
 ghost use Rattle.segment.specs.Checksum.{onesSum, oneFamily, pseudoHeader, checksumRight};
-ghost use Rattle.segment.specs.Totals.{exchanged, exchangedAt, total, mostTotal, lanesTotal, folded};
+ghost use Rattle.segment.specs.Totals.{swapped, swappedAt, total, mostTotal, lanesTotal, folded};
 
 // How many bytes are added up before the carries are added too: an even number, whose words come to less than 2^32.
 const RUN: usize = 65536;
@@ -29,24 +29,24 @@ fn fold(total: u32) -> u16
     (t % 65536 + t / 65536) as u16
 }
 
-// A word with its two bytes exchanged; the contract has the bound that a sum needs.
-fn exchange(x: u16) -> u16
-    ensures { λ r. ⌜ (r ≡ exchanged x) × (x < 65536) ⌝ }
+// A word with its two bytes swapped. The contract repeats that it has 16 bits: a caller's proof needs it.
+fn swap_bytes(x: u16) -> u16
+    ensures { λ r. ⌜ (r ≡ swapped x) × (x < 65536) ⌝ }
 {
     x % 256 * 256 + x / 256
 }
 
-// As wide as a total; the contract has the bound, too.
+// As wide as a total; again with what its type says.
 fn wide(x: u16) -> u32
     ensures { λ r. ⌜ (r ≡ x) × (x < 65536) ⌝ }
 {
     x as u32
 }
 
-// The word at a place, its bytes exchanged: the form in which the compiler reads many at once.
-fn exchanged_at(s: &[u8], i: usize) -> u32
+// The word at a place, its bytes swapped, as a little-endian machine reads it: so the compiler reads many at once.
+fn swapped_at(s: &[u8], i: usize) -> u32
     requires { ⌜ i + 2 ≤ length (now s) ⌝ }
-    ensures { λ r. ⌜ r ≡ exchangedAt (now (s .entry)) i ⌝ }
+    ensures { λ r. ⌜ r ≡ swappedAt (now (s .entry)) i ⌝ }
 {
     wide(word16(s[i + 1], s[i]))
 }
@@ -57,10 +57,10 @@ fn add_words(l: Lanes, s: &[u8], i: usize) -> Lanes
     ensures { λ r. ⌜ lanesTotal r + total (drop (i + 8) (now (s .entry))) ≡ lanesTotal l + total (drop i (now (s .entry))) ⌝ }
 {
     Lanes {
-        a: l.a + exchanged_at(s, i),
-        b: l.b + exchanged_at(s, i + 2),
-        c: l.c + exchanged_at(s, i + 4),
-        d: l.d + exchanged_at(s, i + 6),
+        a: l.a + swapped_at(s, i),
+        b: l.b + swapped_at(s, i + 2),
+        c: l.c + swapped_at(s, i + 4),
+        d: l.d + swapped_at(s, i + 6),
     }
 }
 
@@ -104,7 +104,7 @@ fn total_of_rest(s: &[u8]) -> u32
     let mut sum: u32 = 0;
     let mut k = 0;
     while k < pairs {
-        sum += exchanged_at(s, 2 * k);
+        sum += swapped_at(s, 2 * k);
         k += 1;
     }
     if s.len() % 2 == 1 {
@@ -123,12 +123,12 @@ fn total_of(s: &[u8]) -> u32
     total_of_passes(s, passes) + total_of_rest(&s[rest..])
 }
 
-// The words of at most RUN bytes added to a sum: as exchanged words, since the sum of those is the sum exchanged.
+// The words of at most RUN bytes added to a sum: as swapped words, since the sum of those is the sum swapped.
 fn add_run(sum: u16, s: &[u8]) -> u16
     requires { ⌜ length (now s) ≤ 65536 ⌝ }
     ensures { λ r. ⌜ r ≡ onesSum sum (now (s .entry)) ⌝ }
 {
-    exchange(fold(wide(exchange(sum)) + total_of(s)))
+    swap_bytes(fold(wide(swap_bytes(sum)) + total_of(s)))
 }
 
 // The words of `s` added to a sum, an odd last byte padded with a zero.

@@ -5,7 +5,7 @@ use Rattle.player.proofs.play.bad_line.Statement.{statement}
 use Rattle.player.proofs.play.bad_line.Tie as tie
 
 returns : tie.Need-returns
-returns c = (rw (c .before .put-bad-line .ensures .0), c .before .put-bad-line .ensures .1)
+returns c = (rw (c .before .before .put-bad-line .ensures .0), c .before .before .put-bad-line .ensures .1)
 
 pub bad-line-spec : {M : Type 1} → statement M
 bad-line-spec =

@@ -31,8 +31,8 @@ returns : tie.Need-returns
 returns c =
     let a = c .before .before .before .before .before .before .args in
     let b = bytes-of (a .s .now) (λ i. c .before .before .before .before .before .shared-slice-known .given i .fits) in
-    let first = c .before .before .before .before .exchange .ensures in
-    c .exchange2 .ensures .0
+    let first = c .before .before .before .before .swap-bytes .ensures in
+    c .swap-bytes2 .ensures .0
     ∙ rw (c .before .fold .ensures, c .before .before .before .wide .ensures .0, first .0, c .before .before .total-of .ensures) (run-sum (a .sum) (a .s .now) (first .1) b)
 
 pub add-run-spec : {M : Type 1} → statement M

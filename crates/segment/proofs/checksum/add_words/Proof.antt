@@ -6,14 +6,14 @@ use mathlib.Core.List.{List}
 use native.Mathlib.Nat.{add-zero}
 use native.Mathlib.Omega.{arith}
 use lib.ListN.{length, drop}
-use Rattle.segment.specs.Totals.{exchangedAt, total, passTotal}
+use Rattle.segment.specs.Totals.{swappedAt, total, passTotal}
 use Rattle.segment.proofs.Total.{total-pass}
 use borrow.Author.Needs.{needs}
 use Rattle.segment.proofs.checksum.add_words.Statement.{statement}
 use Rattle.segment.proofs.checksum.add_words.Tie as tie
 
 four : (s : List ℕ) (i : ℕ) → i + 8 ≤ length s
-    → total (drop i s) ≡ exchangedAt s i + exchangedAt s (i + 2) + exchangedAt s (i + 4) + exchangedAt s (i + 6) + total (drop (i + 8) s)
+    → total (drop i s) ≡ swappedAt s i + swappedAt s (i + 2) + swappedAt s (i + 4) + swappedAt s (i + 6) + total (drop (i + 8) s)
 unfolding passTotal
 four s i h = omega (arith, rw (add-zero i) at (total-pass 4 s i h))
 
