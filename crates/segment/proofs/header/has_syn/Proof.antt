@@ -15,5 +15,8 @@ returns c =
     let h : length s ≤ 13 = omega arith in
     rw (List·getD-eq-default s 0 h)
 
+returns-2 : tie.Need-returns-2
+returns-2 c = search needs
+
 pub has-syn-spec : {M : Type 1} → statement M
-has-syn-spec = tie.close (tie.spec returns (λ c. search needs) (λ c κs. search needs) (λ c. search needs))
+has-syn-spec = tie.close (tie.spec returns (λ c. search needs) (λ c κs. search needs) returns-2)

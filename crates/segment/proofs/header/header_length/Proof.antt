@@ -11,5 +11,8 @@ cast-result c = omega (arith, c .shared-slice-known .given 12)
 mul-result : tie.Need-mul-result
 mul-result c = omega (arith, c .shared-slice-known .given 12)
 
+returns : tie.Need-returns
+returns c = search needs
+
 pub header-length-spec : {M : Type 1} → statement M
-header-length-spec = tie.close (tie.spec (λ c. search needs) cast-result mul-result (λ c. search needs))
+header-length-spec = tie.close (tie.spec (λ c. search needs) cast-result mul-result returns)

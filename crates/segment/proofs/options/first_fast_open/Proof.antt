@@ -7,6 +7,12 @@ use borrow.Author.Needs.{needs}
 use Rattle.segment.proofs.options.first_fast_open.Statement.{statement}
 use Rattle.segment.proofs.options.first_fast_open.Tie as tie
 
+returns : tie.Need-returns
+returns c = search needs
+
+returns-2 : tie.Need-returns-2
+returns-2 c = search needs
+
 returns-3 : tie.Need-returns-3
 returns-3 c = ap (λ (f : FastOpenOption). firstFastOpen f (c .before .before .before .args .next)) (sym (c .before .found .given .1))
 
@@ -14,4 +20,4 @@ pub first-fast-open-spec : {M : Type 1} → statement M
 first-fast-open-spec =
     tie.close
     (tie.spec
-    (λ c. search needs) (λ c. search needs) (λ c. search needs) (λ c. search needs) (λ c. search needs) returns-3)
+    (λ c. search needs) (λ c. search needs) (λ c. search needs) returns returns-2 returns-3)

@@ -7,8 +7,11 @@ use borrow.Author.Needs.{needs}
 use Rattle.segment.proofs.options.first_mss.Statement.{statement}
 use Rattle.segment.proofs.options.first_mss.Tie as tie
 
+returns : tie.Need-returns
+returns c = search needs
+
 returns-2 : tie.Need-returns-2
 returns-2 c = ap (λ (m : Mss). firstMss m (c .before .before .before .args .next)) (sym (c .before .found .given .1))
 
 pub first-mss-spec : {M : Type 1} → statement M
-first-mss-spec = tie.close (tie.spec (λ c. search needs) (λ c. search needs) (λ c. search needs) returns-2)
+first-mss-spec = tie.close (tie.spec (λ c. search needs) (λ c. search needs) returns returns-2)
