@@ -1,6 +1,6 @@
 -- Four bytes in one number: what a sum and a rotation are there, and the T-table.
 -- Assumes nothing.
-use mathlib.Core.Path.{_≡_, refl, ap, ap₂, sym, _∙_}
+use mathlib.Core.Path.{_≡_, ap, ap₂, sym, _∙_}
 use mathlib.Core.List.{List, [], _∷_}
 use Prim.Native.Nat.{ℕ, _+_, _*_, _/_, _%_, _<_, _^_}
 use native.Mathlib.Omega.{arith}
@@ -8,20 +8,20 @@ use lib.Bits.{bitXor, xor-mod, xor-shr, xor-lt, xor-zero-r}
 use lib.Dec.{T}
 use lib.ListN.{length}
 use Rattle.cipher.specs.Field.{_•_, productOf, xtime}
-use Rattle.cipher.specs.Cipher.{four, xorWord, mixByte, sBox}
+use Rattle.cipher.specs.Cipher.{Bytes, four, xorWord, mixByte, sBox}
 use Rattle.cipher.specs.KeyExpansion.{rotWord}
 use Rattle.cipher.specs.Packed.{bytesOf, share, IsTTable}
 use Rattle.cipher.proofs.Bounds.{s-box-byte}
 use Rattle.cipher.proofs.Table.{every, table-of}
 use Rattle.cipher.proofs.Words.{four-equal}
-use Rattle.cipher.proofs.Xor.{xor-turn}
+use Rattle.cipher.proofs.Xor.{xor-turn, xor-pairs}
 
 -- a sum goes byte by byte
 byte-xor : (k p q : ℕ) → bitXor p q / 2 ^ k % 2 ^ 8 ≡ bitXor (p / 2 ^ k % 2 ^ 8) (q / 2 ^ k % 2 ^ 8)
 byte-xor k p q = rw (xor-shr p q k, xor-mod (p / 2 ^ k) (q / 2 ^ k) 8)
 
-bytes-xor : (p q : ℕ) → bytesOf (bitXor p q) ≡ xorWord (bytesOf p) (bytesOf q)
-bytes-xor p q = four-equal (xor-mod p q 8) (byte-xor 8 p q) (byte-xor 16 p q) (byte-xor 24 p q)
+bytes-xor : (p q : ℕ) {u v : Bytes} → bytesOf p ≡ u → bytesOf q ≡ v → bytesOf (bitXor p q) ≡ xorWord u v
+bytes-xor p q e f = four-equal (xor-mod p q 8) (byte-xor 8 p q) (byte-xor 16 p q) (byte-xor 24 p q) ∙ ap₂ xorWord e f
 
 -- the number of these four bytes
 abbrev number : ℕ → ℕ → ℕ → ℕ → ℕ
@@ -61,11 +61,11 @@ pub t-table-tested : (t : List ℕ) → length t ≡ 256 → T (every (λ x. ent
 unfolding IsTTable
 t-table-tested t l p x h = ap bytesOf (table-of (λ x. entryOf (sBox x)) 256 t l p x h) ∙ entry-bytes (sBox x) (s-box-byte x)
 
--- a column of MixColumns: what its bytes a, b, c, d add, each turned to its row
-pub mixed : (a b c d p q r s : ℕ) → bytesOf p ≡ share a → bytesOf q ≡ rotWord (rotWord (rotWord (share b))) → bytesOf r ≡ rotWord (rotWord (share c))
-    → bytesOf s ≡ rotWord (share d) → bytesOf (bitXor (bitXor (bitXor p q) r) s) ≡ four (mixByte (a ∷ b ∷ c ∷ d ∷ []))
+-- a column of MixColumns: what its bytes a, b, c, d add, each turned to its row; c and b take two places together, to z
+pub mixed : (a b c d p q r s z : ℕ) → bytesOf p ≡ share a → bytesOf s ≡ rotWord (share d) → bytesOf r ≡ share c → bytesOf q ≡ rotWord (share b)
+    → bytesOf z ≡ rotWord (rotWord (bytesOf (bitXor r q))) → bytesOf (bitXor (bitXor p s) z) ≡ four (mixByte (a ∷ b ∷ c ∷ d ∷ []))
 unfolding mixByte
-mixed a b c d p q r s e f g h =
-    bytes-xor (bitXor (bitXor p q) r) s
-    ∙ ap₂ xorWord (bytes-xor (bitXor p q) r ∙ ap₂ xorWord (bytes-xor p q ∙ ap₂ xorWord e f) g) h
-    ∙ four-equal refl (xor-turn a (2 • b) (3 • c) d) (xor-turn a b (2 • c) (3 • d) ∙ xor-turn b (2 • c) (3 • d) a) (sym (xor-turn (2 • d) (3 • a) b c))
+mixed a b c d p q r s z e h g f k =
+    bytes-xor (bitXor p s) z (bytes-xor p s e h) (k ∙ ap (λ (w : Bytes). rotWord (rotWord w)) (bytes-xor r q g f))
+    ∙ four-equal (xor-pairs (2 • a) (3 • b) c d) (xor-pairs a (2 • b) (3 • c) d ∙ xor-turn a (2 • b) (3 • c) d)
+    (xor-pairs a b (2 • c) (3 • d) ∙ xor-turn a b (2 • c) (3 • d) ∙ xor-turn b (2 • c) (3 • d) a) (xor-pairs (3 • a) b c (2 • d) ∙ sym (xor-turn (2 • d) (3 • a) b c))

@@ -43,3 +43,7 @@ xor-assoc a =
 pub xor-turn : (a b c d : ℕ) → a ⊕ b ⊕ c ⊕ d ≡ b ⊕ c ⊕ d ⊕ a
 xor-turn a b c d =
     xor-assoc (a ⊕ b) c d ∙ xor-assoc a b (c ⊕ d) ∙ ap (λ (x : ℕ). a ⊕ x) (sym (xor-assoc b c d)) ∙ xor-comm a (b ⊕ c ⊕ d)
+
+-- and added in pairs, the first with the last
+pub xor-pairs : (a b c d : ℕ) → (a ⊕ d) ⊕ (c ⊕ b) ≡ a ⊕ b ⊕ c ⊕ d
+xor-pairs a b c d = ap₂ _⊕_ (xor-comm a d) (xor-comm c b) ∙ sym (xor-assoc (d ⊕ a) b c) ∙ xor-turn d a b c

@@ -3,7 +3,7 @@
 // The state, four columns of four bytes, and the key schedule of 176 bytes pass by value through each round. To spare copies, the
 // functions inside a round are lent the schedule, and all are lent the tables. Numbers in brackets are sections of FIPS 197.
 mod sbox;
-mod ttable;
+pub mod ttable;
 
 use sbox::s_box;
 use ttable::t_table;
@@ -93,19 +93,6 @@ fn to_block(s: [[u8; 4]; 4]) -> [u8; 16]
     ]
 }
 
-// SubBytes (5.1.1)
-fn sub_bytes(t: &[u8; 256], s: [[u8; 4]; 4]) -> [[u8; 4]; 4]
-    requires { ⌜ IsSBox (now t) ⌝ }
-    ensures { λ r. ⌜ r ≡ subBytes s ⌝ }
-{
-    [
-        sub_word(t, s[0]),
-        sub_word(t, s[1]),
-        sub_word(t, s[2]),
-        sub_word(t, s[3]),
-    ]
-}
-
 // ShiftRows (5.1.2)
 fn shift_rows(s: [[u8; 4]; 4]) -> [[u8; 4]; 4]
     ensures { λ r. ⌜ r ≡ shiftRows s ⌝ }
@@ -140,33 +127,59 @@ fn rotate(p: u32) -> u32
 
 // What x, in row 0, adds to its column.
 fn share_of(t: &[u32; 256], x: u8) -> u32
-    requires { ⌜ IsTTable (now t) ⌝ }
-    ensures { λ r. ⌜ bytesOf r ≡ share (sBox x) ⌝ }
+    ensures { λ r. ⌜ (IsTTable (now (t .entry)) → bytesOf r ≡ share (sBox x)) ⌝ }
 {
     t[x as usize]
 }
 
-// In row r a byte adds the same as in row 0, r places on; that is 4 - r places back.
+// In row r a byte adds the same as in row 0, r places on; that is 4 - r places back, of which the inner rows, 2 and 1, share two.
 fn sub_mix_column(t: &[u32; 256], w: [u8; 4]) -> [u8; 4]
-    requires { ⌜ IsTTable (now t) ⌝ }
-    ensures { λ r. ⌜ r ≡ four (mixByte (subWord w)) ⌝ }
+    ensures { λ r. ⌜ (IsTTable (now (t .entry)) → r ≡ four (mixByte (subWord w))) ⌝ }
 {
-    let row0 = share_of(t, w[0]);
-    let row1 = rotate(rotate(rotate(share_of(t, w[1]))));
-    let row2 = rotate(rotate(share_of(t, w[2])));
-    let row3 = rotate(share_of(t, w[3]));
-    unpack(row0 ^ row1 ^ row2 ^ row3)
+    let outer = share_of(t, w[0]) ^ rotate(share_of(t, w[3]));
+    let inner = share_of(t, w[2]) ^ rotate(share_of(t, w[1]));
+    unpack(outer ^ rotate(rotate(inner)))
 }
 
 fn sub_mix_columns(t: &[u32; 256], s: [[u8; 4]; 4]) -> [[u8; 4]; 4]
-    requires { ⌜ IsTTable (now t) ⌝ }
-    ensures { λ r. ⌜ r ≡ mixColumns (subBytes s) ⌝ }
+    ensures { λ r. ⌜ (IsTTable (now (t .entry)) → r ≡ mixColumns (subBytes s)) ⌝ }
 {
     [
         sub_mix_column(t, s[0]),
         sub_mix_column(t, s[1]),
         sub_mix_column(t, s[2]),
         sub_mix_column(t, s[3]),
+    ]
+}
+
+// SubBytes (5.1.1) alone, for the last round, from the same table: what x, in row 0, adds to row 1 is S-box(x).
+
+fn sub_byte_in(t: &[u32; 256], x: u8) -> u8
+    ensures { λ r. ⌜ (IsTTable (now (t .entry)) → r ≡ sBox x) ⌝ }
+{
+    let added = unpack(share_of(t, x));
+    added[1]
+}
+
+fn sub_word_in(t: &[u32; 256], w: [u8; 4]) -> [u8; 4]
+    ensures { λ r. ⌜ (IsTTable (now (t .entry)) → r ≡ subWord w) ⌝ }
+{
+    [
+        sub_byte_in(t, w[0]),
+        sub_byte_in(t, w[1]),
+        sub_byte_in(t, w[2]),
+        sub_byte_in(t, w[3]),
+    ]
+}
+
+fn sub_bytes(t: &[u32; 256], s: [[u8; 4]; 4]) -> [[u8; 4]; 4]
+    ensures { λ r. ⌜ (IsTTable (now (t .entry)) → r ≡ subBytes s) ⌝ }
+{
+    [
+        sub_word_in(t, s[0]),
+        sub_word_in(t, s[1]),
+        sub_word_in(t, s[2]),
+        sub_word_in(t, s[3]),
     ]
 }
 
@@ -196,16 +209,15 @@ fn add_round_key(s: [[u8; 4]; 4], w: &[u8; 176], n: usize) -> [[u8; 4]; 4]
 
 // Round n, from 1 to 9. ShiftRows comes first, since SubBytes is the same for every byte.
 fn round(s: [[u8; 4]; 4], round_keys: [u8; 176], t: &[u32; 256], n: usize) -> [[u8; 4]; 4]
-    requires { ⌜ IsTTable (now t) × (n ≤ 10) ⌝ }
-    ensures { λ r. ⌜ r ≡ addRoundKey «round_keys» n (mixColumns (shiftRows (subBytes s))) ⌝ }
+    requires { ⌜ n ≤ 10 ⌝ }
+    ensures { λ r. ⌜ (IsTTable (now (t .entry)) → r ≡ addRoundKey «round_keys» n (mixColumns (shiftRows (subBytes s)))) ⌝ }
 {
     add_round_key(sub_mix_columns(t, shift_rows(s)), &round_keys, n)
 }
 
 // Rounds 1 to 9. No loop: where the number of a round is a constant, its round key is read in place and the schedule is not copied.
 fn nine_rounds(s: [[u8; 4]; 4], round_keys: [u8; 176], t: &[u32; 256]) -> [[u8; 4]; 4]
-    requires { ⌜ IsTTable (now t) ⌝ }
-    ensures { λ r. ⌜ r ≡ rounds «round_keys» 9 s ⌝ }
+    ensures { λ r. ⌜ (IsTTable (now (t .entry)) → r ≡ rounds «round_keys» 9 s) ⌝ }
 {
     let s1 = round(s, round_keys, t, 1);
     let s2 = round(s1, round_keys, t, 2);
@@ -219,23 +231,28 @@ fn nine_rounds(s: [[u8; 4]; 4], round_keys: [u8; 176], t: &[u32; 256]) -> [[u8; 
 }
 
 // Round 10, which mixes no columns.
-fn last_round(s: [[u8; 4]; 4], round_keys: [u8; 176], t: &[u8; 256]) -> [[u8; 4]; 4]
-    requires { ⌜ IsSBox (now t) ⌝ }
-    ensures { λ r. ⌜ r ≡ addRoundKey «round_keys» 10 (shiftRows (subBytes s)) ⌝ }
+fn last_round(s: [[u8; 4]; 4], round_keys: [u8; 176], t: &[u32; 256]) -> [[u8; 4]; 4]
+    ensures { λ r. ⌜ (IsTTable (now (t .entry)) → r ≡ addRoundKey «round_keys» 10 (shiftRows (subBytes s))) ⌝ }
 {
     add_round_key(shift_rows(sub_bytes(t, s)), &round_keys, 10)
 }
 
 // The encryption of one block under a key schedule: round key n is its bytes 16 n to 16 n + 15, as `expand_key` lays them out. Any other
-// 176 bytes are taken as a schedule too.
+// 176 bytes are taken as a schedule too. The T-table is lent, so that blocks can share one.
+pub fn encrypt_with(t: &[u32; 256], round_keys: [u8; 176], block: [u8; 16]) -> [u8; 16]
+    ensures { λ r. ⌜ (IsTTable (now (t .entry)) → r ≡ cipher «round_keys» block) ⌝ }
+{
+    let s = add_round_key(from_block(block), &round_keys, 0);
+    let s9 = nine_rounds(s, round_keys, t);
+    to_block(last_round(s9, round_keys, t))
+}
+
+// A block by itself, with a T-table of its own.
 pub fn encrypt(round_keys: [u8; 176], block: [u8; 16]) -> [u8; 16]
     ensures { λ r. ⌜ r ≡ cipher «round_keys» block ⌝ }
 {
-    let shares = t_table();
-    let s = add_round_key(from_block(block), &round_keys, 0);
-    let s9 = nine_rounds(s, round_keys, &shares);
-    let t = s_box();
-    to_block(last_round(s9, round_keys, &t))
+    let t = t_table();
+    encrypt_with(&t, round_keys, block)
 }
 
 // KeyExpansion (5.2)

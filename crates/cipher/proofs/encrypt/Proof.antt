@@ -1,16 +1,11 @@
--- `cipher::encrypt` meets its contract.
+-- `cipher::encrypt` meets its contract: its table is the T-table.
 -- Assumes nothing.
-use Rattle.cipher.proofs.Rounds.{cipher-done}
 use borrow.Author.Needs.{needs}
 use Rattle.cipher.proofs.encrypt.Statement.{statement}
 use Rattle.cipher.proofs.encrypt.Tie as tie
 
 returns : tie.Need-returns
-returns c = cipher-done _ _ (c .before .before .before .before .before .before .before .before .from-block .ensures) (c .before .before .before .before .before .before .add-round-key .ensures) (c .before .before .before .before .nine-rounds .ensures) (c .before .last-round .ensures) (c .to-block .ensures)
+returns c = c .encrypt-with .ensures (c .before .before .t-table .ensures)
 
 pub encrypt-spec : {M : Type 1} → statement M
-encrypt-spec =
-    tie.close
-    (tie.spec
-    (λ c κs. search needs) (λ c κs. search needs) (λ c κs. search needs) (λ c κs. search needs)
-    (λ c κs. search needs) (λ c κs. search needs) (λ c κs. search needs) returns)
+encrypt-spec = tie.close (tie.spec (λ c κs. search needs) (λ c κs. search needs) returns)

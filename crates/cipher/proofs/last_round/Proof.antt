@@ -1,4 +1,4 @@
--- `cipher::last_round` meets its contract.
+-- `cipher::last_round` meets its contract, step by step.
 -- Assumes nothing.
 use Rattle.cipher.proofs.Rounds.{last-done}
 use borrow.Author.Needs.{needs}
@@ -6,9 +6,9 @@ use Rattle.cipher.proofs.last_round.Statement.{statement}
 use Rattle.cipher.proofs.last_round.Tie as tie
 
 returns : tie.Need-returns
-returns c =
+returns c rule =
     let s = c .before .before .before .before .args in
-    last-done (s .t2) (s .s) (c .before .before .before .sub-bytes .ensures) (c .before .before .shift-rows .ensures) (c .add-round-key .ensures)
+    last-done (s .t2) (s .s) (c .before .before .before .sub-bytes .ensures rule) (c .before .before .shift-rows .ensures) (c .add-round-key .ensures)
 
 pub last-round-spec : {M : Type 1} → statement M
 last-round-spec =
