@@ -1,5 +1,6 @@
 // The Fast Open cookie: made, compared, and checked for an opening.
-use cipher::encrypt;
+use cipher::encrypt_with;
+use cipher::ttable::t_table;
 use protocol::state::Keys;
 use segment::options::FastOpenOption;
 use segment::options::cookie;
@@ -7,6 +8,7 @@ ghost use mathlib.Core.Path.{_≡_};
 ghost use lib.ListN.{take};
 ghost use mathlib.Core.Bool.{true, false, _&&_, not};
 ghost use Rattle.lists.specs.Bytes.{sameBytes};
+ghost use Rattle.cipher.specs.Packed.{IsTTable};
 ghost use Rattle.protocol.specs.Cookie.{cookieUnder, found, counts, rightUnder, right};
 ghost use Rattle.cookie.specs.Check.{cookieCheck};
 
@@ -25,11 +27,19 @@ fn first_eight(block: [u8; 16]) -> [u8; 8]
     ]
 }
 
-// The cookie of an address, by its block, under a key's round keys.
+// The cookie of an address, by its block, under a key's round keys. The cipher's T-table is lent, so that two cookies can share one.
+fn cookie_with(t: &[u32; 256], round_keys: [u8; 176], b: [u8; 16]) -> [u8; 8]
+    requires { ⌜ IsTTable (now t) ⌝ }
+    ensures { λ r. ⌜ r ≡ cookieUnder «round_keys» b ⌝ }
+{
+    first_eight(encrypt_with(t, round_keys, b))
+}
+
 pub fn make_cookie(round_keys: [u8; 176], b: [u8; 16]) -> [u8; 8]
     ensures { λ r. ⌜ r ≡ cookieUnder «round_keys» b ⌝ }
 {
-    first_eight(encrypt(round_keys, b))
+    let t = t_table();
+    cookie_with(&t, round_keys, b)
 }
 
 // Whether these bytes are that cookie. Every byte is compared, with no early exit.
@@ -70,8 +80,9 @@ fn checked(right: bool, fresh: bool, cookie: [u8; 8]) -> OptionCheck
 fn check_cookie(keys: Keys, b: [u8; 16], given: &[u8]) -> OptionCheck
     ensures { λ r. ⌜ r ≡ cookieCheck keys b (now (given .entry)) ⌝ }
 {
+    let t = t_table();
     let present = keys.present;
-    let new = make_cookie(present, b);
+    let new = cookie_with(&t, present, b);
     if is_cookie(given, new) {
         return checked(true, false, new);
     }
@@ -79,7 +90,7 @@ fn check_cookie(keys: Keys, b: [u8; 16], given: &[u8]) -> OptionCheck
         return checked(false, true, new);
     }
     let previous = keys.previous;
-    let old = make_cookie(previous, b);
+    let old = cookie_with(&t, previous, b);
     checked(is_cookie(given, old), true, new)
 }
 
