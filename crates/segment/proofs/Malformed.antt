@@ -1,5 +1,5 @@
 -- What holds of a segment that is well formed, and of its parts. Assumes nothing.
-use Prim.Native.Nat.{ℕ, _+_, _-_, _<_, _≤_}
+use Prim.Native.Nat.{ℕ, _+_, _-_, _*_, _<_, _≤_}
 use mathlib.Core.Path.{_≡_, refl, ap, sym, _∙_}
 use mathlib.Core.Bool.{Bool, true, false, cond}
 use mathlib.Core.List.{List, [], _++_}
@@ -44,25 +44,20 @@ pub no-payload : (s : List ℕ) → malformed s ≡ true → payloadOf s ≡ []
 unfolding payloadOf
 no-payload s e = rw e
 
--- the parts, by where the header ends and how many bytes follow it
-pub area-by : (s : List ℕ) → take (cond (malformed s) 20 (headerLength s) - 20) (drop 20 s) ≡ optionArea s
-unfolding optionArea
-area-by s = go (malformed s)
-  where
-    go : (b : Bool) → take (cond b 20 (headerLength s) - 20) (drop 20 s) ≡ cond b [] (take (headerLength s - 20) (drop 20 s))
-    go true = refl
-    go false = refl
+-- a well-formed segment's parts, by its data offset
+module _ (s : List ℕ) (e : malformed s ≡ false) where
+  pub area-is : take (4 * offsetOf s - 20) (drop 20 s) ≡ optionArea s
+  unfolding optionArea
+  area-is = rw e
 
-pub payload-by : (s : List ℕ) → take (cond (malformed s) 0 (length s - headerLength s)) (drop (cond (malformed s) 20 (headerLength s)) s) ≡ payloadOf s
-unfolding payloadOf
-payload-by s = go (malformed s)
-  where
-    h : ℕ
-    h = headerLength s
+  pub payload-is : drop (4 * offsetOf s) s ≡ payloadOf s
+  unfolding payloadOf
+  payload-is = rw e
 
-    go : (b : Bool) → take (cond b 0 (length s - h)) (drop (cond b 20 h) s) ≡ cond b [] (drop h s)
-    go true = refl
-    go false = take-all (length s - h) (drop h s) (omega (arith, length-drop h s))
+-- and its header has that offset
+pub offset-is : (s : List ℕ) → fieldsOf s .offset ≡ offsetOf s
+unfolding fieldsOf
+offset-is s = refl
 
 -- the first 20 bytes, the option area and the payload are the segment
 pub parts : (s : List ℕ) → malformed s ≡ false → take 20 s ++ (optionArea s ++ payloadOf s) ≡ s

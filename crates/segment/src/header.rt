@@ -2,11 +2,10 @@
 use crate::number::long_at;
 use crate::number::word_at;
 ghost use mathlib.Core.Path.{_≡_};
-ghost use mathlib.Core.Bool.{cond};
-ghost use Prim.Native.Nat.{_-_, _≤_};
+ghost use Prim.Native.Nat.{_-_, _*_, _≤_};
 ghost use lib.ListN.{length, take, drop};
 ghost use Rattle.segment.specs.Bytes.{byteAt};
-ghost use Rattle.segment.specs.Header.{headerLength, malformed, fieldsOf, shapeOf, optionArea, payloadOf, SYN, has, kindOf, isSynAck};
+ghost use Rattle.segment.specs.Header.{malformed, fieldsOf, shapeOf, optionArea, payloadOf, SYN, has, kindOf, isSynAck};
 
 // The longest segment that is read or written, in bytes.
 pub const LONGEST_SEGMENT: usize = 1520;
@@ -78,34 +77,6 @@ pub fn read_header(seg: &[u8]) -> Shape
     Shape::WellFormed(fields(seg))
 }
 
-// The length in bytes of a header whose offset is there.
-fn header_length(seg: &[u8]) -> usize
-    requires { ⌜ 20 ≤ length (now seg) ⌝ }
-    ensures { λ r. ⌜ r ≡ headerLength (now (seg .entry)) ⌝ }
-{
-    4 * ((seg[12] / 16) as usize)
-}
-
-// Where the header of a segment ends, and how many bytes of payload follow it; 20 and none where the segment is malformed.
-struct Layout {
-    end: usize,
-    rest: usize,
-}
-
-fn layout_of(seg: &[u8]) -> Layout
-    ensures { λ r. ⌜ (r .end ≡ cond (malformed (now (seg .entry))) 20 (headerLength (now (seg .entry)))) × (20 ≤ r .end) ⌝ }
-    ensures { λ r. ⌜ r .rest ≡ cond (malformed (now (seg .entry))) 0 (length (now (seg .entry)) - headerLength (now (seg .entry))) ⌝ }
-{
-    if is_malformed(seg) {
-        return Layout { end: 20, rest: 0 };
-    }
-    let end = header_length(seg);
-    Layout {
-        end,
-        rest: seg.len() - end,
-    }
-}
-
 // At most `len` bytes from `at` on.
 pub(crate) fn part(s: &[u8], at: usize, len: usize) -> &[u8]
     ensures { λ r. ⌜ now r ≡ take len (drop at (now (s .entry))) ⌝ }
@@ -121,20 +92,46 @@ pub(crate) fn part(s: &[u8], at: usize, len: usize) -> &[u8]
     &s[at..end]
 }
 
-// The option area, as a part of the segment: from byte 20 to the header's end, at most 40 bytes; empty where the segment is malformed.
+// The option area of a segment whose data offset has been read: from byte 20 to the header's end.
+pub fn area_within(seg: &[u8], offset: u8) -> &[u8]
+    ensures { λ r. ⌜ now r ≡ take (4 * offset - 20) (drop 20 (now (seg .entry))) ⌝ }
+{
+    let end = 4 * (offset as usize);
+    if end < 20 {
+        return &seg[..0];
+    }
+    part(seg, 20, end - 20)
+}
+
+// The payload of a segment whose data offset has been read.
+pub fn payload_after(seg: &[u8], offset: u8) -> &[u8]
+    ensures { λ r. ⌜ now r ≡ drop (4 * offset) (now (seg .entry)) ⌝ }
+{
+    let end = 4 * (offset as usize);
+    if seg.len() < end {
+        return &seg[..0];
+    }
+    &seg[end..]
+}
+
+// The option area, as a part of the segment: at most 40 bytes; empty where the segment is malformed.
 pub fn option_area(seg: &[u8]) -> &[u8]
     ensures { λ r. ⌜ now r ≡ optionArea (now (seg .entry)) ⌝ }
 {
-    let l = layout_of(seg);
-    part(seg, 20, l.end - 20)
+    if is_malformed(seg) {
+        return &seg[..0];
+    }
+    area_within(seg, seg[12] / 16)
 }
 
 // The payload, as a part of the segment; empty where the segment is malformed.
 pub fn payload(seg: &[u8]) -> &[u8]
     ensures { λ r. ⌜ now r ≡ payloadOf (now (seg .entry)) ⌝ }
 {
-    let l = layout_of(seg);
-    part(seg, l.end, l.rest)
+    if is_malformed(seg) {
+        return &seg[..0];
+    }
+    payload_after(seg, seg[12] / 16)
 }
 
 // The control bits, by their weight in the flags.

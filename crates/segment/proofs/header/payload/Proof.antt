@@ -1,18 +1,23 @@
--- `segment::header::payload` meets its contract: by the layout.
+-- `segment::header::payload` meets its contract: by the shape.
 -- Assumes nothing.
-use Prim.Native.Nat.{ℕ}
-use mathlib.Core.Path.{ap₂, _∙_}
-use lib.ListN.{take, drop}
-use Rattle.segment.proofs.Malformed.{payload-by}
+use mathlib.Core.Path.{sym, _∙_}
+use native.Mathlib.Omega.{arith}
+use Rattle.segment.proofs.Malformed.{formed, no-payload, payload-is}
 use borrow.Author.Needs.{needs}
 use Rattle.segment.proofs.header.payload.Statement.{statement}
 use Rattle.segment.proofs.header.payload.Tie as tie
 
 returns : tie.Need-returns
-returns c =
-    let s = c .before .before .before .args .seg .now in
-    let l = c .before .layout-of .ensures in
-    c .part .ensures ∙ ap₂ (λ (n at : ℕ). take n (drop at s)) (l .1) (l .0 .0) ∙ payload-by s
+returns c = sym (no-payload _ (sym (c .before .before .is-malformed .ensures) ∙ c .before .if1 .taken))
+
+shared-slice-read-payload-after : tie.Need-shared-slice-read-payload-after
+shared-slice-read-payload-after c = omega (arith, formed _ (sym (c .before .before .is-malformed .ensures) ∙ c .before .if1 .left))
+
+returns-2 : tie.Need-returns-2
+returns-2 c = c .payload-after .ensures ∙ payload-is _ (sym (c .before .before .before .is-malformed .ensures) ∙ c .before .before .if1 .left)
 
 pub payload-spec : {M : Type 1} → statement M
-payload-spec = tie.close (tie.spec (λ c κs. search needs) (λ c κs. search needs) returns)
+payload-spec =
+    tie.close
+    (tie.spec
+    (λ c κs. search needs) (λ c. search needs) returns shared-slice-read-payload-after (λ c κs. search needs) returns-2)
