@@ -66,13 +66,12 @@ pub fn same_block(a: [u8; 16], b: [u8; 16]) -> bool
     same
 }
 
-// Whether two names are the same, given their ports and the blocks of their addresses.
+// Whether two names are the same, given their ports and the blocks of their addresses. The ports come first: they tell most names apart.
 pub fn same_name(p: u16, q: u16, a: [u8; 16], b: [u8; 16]) -> bool
     ensures { λ r. ⌜ r ≡ sameName p q a b ⌝ }
 {
-    let same = same_block(a, b);
     if p != q {
         return false;
     }
-    same
+    same_block(a, b)
 }

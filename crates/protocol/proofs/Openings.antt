@@ -25,11 +25,11 @@ use Rattle.protocol.specs.View.{known, view}
 use Rattle.protocol.specs.Refusals.{wireChecks, callCheck}
 use Rattle.protocol.specs.Step.{cookiesEnabled, accepts, isEarly, isFresh, newEvent, synAckTo, put, after, step}
 use Rattle.protocol.specs.declared.slots.Status.{Status}
-use Rattle.protocol.specs.declared.slots.Status.the-variants.{Free, SynReceived, SynReceivedEarly, ResetHeld, Established}
+use Rattle.protocol.specs.declared.slots.Status.the-variants.{SynReceived, SynReceivedEarly}
 use Rattle.protocol.specs.declared.slots.Slot.{Slot}
 use Rattle.protocol.specs.declared.state.View.{View}
 use Rattle.protocol.specs.declared.state.Listener.{Listener}
-use Rattle.protocol.proofs.Table.{not-free}
+use Rattle.protocol.proofs.Table.{not-free, idle}
 
 -- The table
 
@@ -66,14 +66,6 @@ module _ (l : Listener) (t : ℕ) (p : Peer) where
       placed (holding t p) (l .slots)
       (λ h. absurd (omega (arith, e, some-passes (holding t p) (l .slots) _ freeSlot h (first-passes (holding t p) (l .slots) freeSlot h))))
       (λ h. ap (λ (s : Slot). not (isFree (s .status))) (List·getD-eq-default (l .slots) freeSlot h))
-
--- a slot that is not live is not pending
-idle : (t : ℕ) (s : Status) → isLive t s ≡ false → isPending t s ≡ false
-idle t Free e = refl
-idle t SynReceived e = refl
-idle t (SynReceivedEarly n) e = e
-idle t (ResetHeld end) e = e
-idle t Established e = refl
 
 -- the free place is taken: pending is one more if the new slot is pending
 pub pending-put : (t : ℕ) (slots : List Slot) (s : Slot) → freePlace t slots < length slots

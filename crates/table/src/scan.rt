@@ -8,30 +8,21 @@ use protocol::slots::Scan;
 use protocol::slots::Slot;
 use std::num::wrapping_add_u32;
 ghost use mathlib.Core.Path.{_≡_};
+ghost use mathlib.Core.Bool.{true};
 ghost use Prim.Native.Nat.{_<_};
 ghost use Rattle.protocol.specs.Table.{slotCount, holdsPeer};
 ghost use Rattle.table.specs.Scan.{firstPlace, countIf, scanWith, emptyScan, indexInTable, slotFound};
 
-// Whether the slot holds a connection of this name at the time.
-fn is_named(time: u64, b: [u8; 16], port: u16, s: Slot) -> bool
+// Whether the slot holds a connection of this name at the time. The name comes first: where only the name is looked for, most slots' statuses need not be read.
+pub fn is_named(time: u64, b: [u8; 16], port: u16, s: Slot) -> bool
     ensures { λ r. ⌜ r ≡ holdsPeer time b port s ⌝ }
 {
-    let status = s.status;
-    if !is_live(time, status) {
+    let a = s.addr;
+    if !same_name(s.port, port, a, b) {
         return false;
     }
-    let a = s.addr;
-    same_name(s.port, port, a, b)
-}
-
-// The first place of those found so far and this one, if the test passed here.
-fn first_place(found: usize, i: usize, here: bool) -> usize
-    ensures { λ r. ⌜ r ≡ firstPlace found i here ⌝ }
-{
-    if found < SLOTS {
-        return found;
-    }
-    if here { i } else { found }
+    let status = s.status;
+    is_live(time, status)
 }
 
 // One more if the test passed here. (A table of 64 never comes near the end of a `u32`.)
@@ -41,16 +32,63 @@ pub fn count_if(n: u32, here: bool) -> u32
     if here { wrapping_add_u32(n, 1) } else { n }
 }
 
-// The scan goes on by one slot. Its loop stands in each call.
+// What is known where a slot is free.
+fn with_free(scan: Scan, i: usize) -> Scan
+    ensures { λ r. ⌜ r ≡ record { place = scan .place; free = firstPlace (scan .free) i true; pending = scan .pending } ⌝ }
+{
+    if scan.free < SLOTS {
+        return scan;
+    }
+    Scan {
+        place: scan.place,
+        free: i,
+        pending: scan.pending,
+    }
+}
+
+// What is known where a slot is the peer's.
+fn with_place(scan: Scan, i: usize) -> Scan
+    ensures { λ r. ⌜ r ≡ record { place = firstPlace (scan .place) i true; free = scan .free; pending = scan .pending } ⌝ }
+{
+    if scan.place < SLOTS {
+        return scan;
+    }
+    Scan {
+        place: i,
+        free: scan.free,
+        pending: scan.pending,
+    }
+}
+
+// What is known where a slot is pending or not.
+fn with_pending(scan: Scan, here: bool) -> Scan
+    ensures { λ r. ⌜ r ≡ record { place = scan .place; free = scan .free; pending = countIf (scan .pending) here } ⌝ }
+{
+    if here {
+        return Scan {
+            place: scan.place,
+            free: scan.free,
+            pending: wrapping_add_u32(scan.pending, 1),
+        };
+    }
+    scan
+}
+
+// The scan goes on by one slot: its status, then its port, then its address. Each answer has a return of its own, and what did not change is handed on whole: so a slot takes about
+// twelve instructions. The loop stands in the call.
 pub fn scan_slot(scan: Scan, i: usize, time: u64, b: [u8; 16], port: u16, s: Slot) -> Scan
     ensures { λ r. ⌜ r ≡ scanWith scan i time b port s ⌝ }
 {
     let status = s.status;
-    Scan {
-        place: first_place(scan.place, i, is_named(time, b, port, s)),
-        free: first_place(scan.free, i, !is_live(time, status)),
-        pending: count_if(scan.pending, is_pending(time, status)),
+    if !is_live(time, status) {
+        return with_free(scan, i);
     }
+    let counted = with_pending(scan, is_pending(time, status));
+    let a = s.addr;
+    if same_name(s.port, port, a, b) {
+        return with_place(counted, i);
+    }
+    counted
 }
 
 // What is known before the first slot.

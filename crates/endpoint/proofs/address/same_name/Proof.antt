@@ -1,4 +1,4 @@
--- `endpoint::address::same_name` meets its contract: the blocks, then the ports.
+-- `endpoint::address::same_name` meets its contract: the ports, then the blocks.
 -- Assumes nothing.
 use borrow.Author.Needs.{needs}
 use borrow.Author.Tests.{eq-eqb, ne-eqb}
@@ -9,7 +9,7 @@ returns : tie.Need-returns
 returns c = simp (ne-eqb _ _ (c .if1 .taken))
 
 returns-2 : tie.Need-returns-2
-returns-2 c = simp (eq-eqb _ _ (c .if1 .left), c .before .same-block .ensures)
+returns-2 c = simp (eq-eqb _ _ (c .before .if1 .left), c .same-block .ensures)
 
 pub same-name-spec : {M : Type 1} → statement M
-same-name-spec = tie.close (tie.spec (λ c κs. search needs) returns returns-2)
+same-name-spec = tie.close (tie.spec returns (λ c κs. search needs) returns-2)
