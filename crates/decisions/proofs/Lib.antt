@@ -1,4 +1,5 @@
 -- What the functions' proofs cite.
 pub mod IsInRange
 pub mod Receive
-pub mod Act
+pub mod Parts
+pub mod Opened

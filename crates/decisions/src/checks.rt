@@ -7,7 +7,6 @@ use protocol::state::MOST_EARLY_ROOM;
 use protocol::state::MOST_HOLD;
 use protocol::state::MOST_LIMIT;
 use protocol::state::Settings;
-use protocol::state::View;
 use segment::checksum::is_checksum_right;
 use segment::header::Header;
 use segment::header::Kind;
@@ -28,8 +27,9 @@ ghost use mathlib.Core.List.{_++_};
 ghost use Rattle.segment.specs.Refusal.{refusal};
 ghost use Rattle.segment.specs.Header.{fieldsOf};
 ghost use Rattle.endpoint.specs.Checks.{isUntimely, timely, addressed};
-ghost use Rattle.protocol.specs.Refusals.{inRange, repeats, completes, resets, expected, outputChecks, sequenceChecks, kindChecks, wireChecks};
+ghost use Rattle.protocol.specs.Refusals.{inRange, repeats, completes, resets, expected, outputChecks, sequenceChecks, wireChecks};
 ghost use Rattle.decisions.specs.Received.{received};
+ghost use Rattle.decisions.specs.Parts.{openingChecks, laterChecks};
 
 // 13, 5, 2 and 11: the longest SYN-ACK has 36 bytes.
 pub fn check_output(
@@ -127,14 +127,13 @@ fn admits_reset(s: Slot, h: Header) -> bool
     h.seq == expected_of(s)
 }
 
-// 7 and 8.
-fn check_syn(v: View, h: Header) -> Check
-    ensures { λ r. ⌜ r ≡ refusal (kindChecks v h Kind.Syn) ⌝ }
+// 7 and 8, from the peer's slot and whether any slot is free.
+pub fn check_opening(slot: Slot, vacant: bool, h: Header) -> Check
+    ensures { λ r. ⌜ r ≡ refusal (openingChecks slot vacant h) ⌝ }
 {
-    let slot = v.slot;
     let status = slot.status;
     if is_free(status) {
-        if v.vacant {
+        if vacant {
             return Check::Clear;
         }
         return Check::Refused(Refusal::TableFull);
@@ -159,13 +158,12 @@ fn check_sequence(s: Slot, admitted: bool) -> Check
     Check::Clear
 }
 
-// 6, 7, 9, 8 and 10.
-pub fn check_kind(v: View, h: Header, kind: Kind) -> Check
-    ensures { λ r. ⌜ r ≡ refusal (kindChecks v h kind) ⌝ }
+// 6, 9 and 10, of a segment that is no opening.
+pub fn check_later(slot: Slot, h: Header, kind: Kind) -> Check
+    ensures { λ r. ⌜ r ≡ refusal (laterChecks slot h kind) ⌝ }
 {
-    let slot = v.slot;
     match kind {
-        Kind::Syn => check_syn(v, h),
+        Kind::Syn => Check::Refused(Refusal::Flags),
         Kind::Ack => check_sequence(slot, admits_completion(slot, h)),
         Kind::Rst => check_sequence(slot, admits_reset(slot, h)),
         Kind::Other => Check::Refused(Refusal::Flags),

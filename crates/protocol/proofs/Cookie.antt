@@ -10,8 +10,10 @@ use Rattle.cipher.specs.Cipher.{cipher}
 use Rattle.cipher.proofs.Rounds.{block-length}
 use Rattle.cipher.proofs.Bounds.{cipher-byte}
 use Rattle.lists.specs.Bytes.{Bytes, sameBytes}
-use Rattle.segment.specs.Header.{optionArea}
-use Rattle.segment.specs.Options.{optionsOf}
+use Rattle.segment.specs.Header.{fieldsOf, kindOf, optionArea}
+use Rattle.segment.specs.Options.{readOptions, optionsOf}
+use Rattle.segment.specs.declared.header.Kind.the-variants.{Syn}
+use Rattle.segment.proofs.Cookie.{syn-options}
 use Rattle.lists.proofs.ByteLists.{bytes-take, bytes-of, each-byte}
 use Rattle.lists.proofs.SameBytes.{same-bytes-eq, same-bytes-refl}
 use Rattle.protocol.specs.Cookie.{Carried, nothing, request, cookie, cookieUnder, found, carriedBy, rightUnder, right}
@@ -77,6 +79,10 @@ never-right k b o n = rw (n (k .present), n (k .previous)) (and-false (k .rotate
 pub carried-found : (seg : List ℕ) → carriedBy seg ≡ found (optionsOf seg .fast) (optionArea seg)
 unfolding carriedBy
 carried-found seg = refl
+
+-- and of an opening, from those in its option area
+pub carried-syn : (seg : List ℕ) → kindOf (fieldsOf seg .flags) ≡ Syn → carriedBy seg ≡ found (readOptions (optionArea seg) .fast) (optionArea seg)
+carried-syn seg e = rw (syn-options seg e) at (carried-found seg)
 
 -- a cookie is those 8 bytes
 pub cookie-is : (w b : List ℕ) → take 8 (cipher w b) ≡ cookieUnder w b

@@ -1,7 +1,7 @@
 -- What is found in an option area: a cookie lies in it and has 4 to 16 bytes, an even number. Assumes nothing.
 use Prim.Native.Nat.{ℕ, zero, suc, _+_, _-_, _%_, _≤_}
-use mathlib.Core.Path.{_≡_}
-use mathlib.Core.Bool.{Bool, true, false, cond, _&&_}
+use mathlib.Core.Path.{_≡_, refl}
+use mathlib.Core.Bool.{Bool, true, false, cond, _&&_, _||_}
 use mathlib.Core.List.{List, [], _∷_}
 use native.Mathlib.Omega.{arith}
 use lib.ListN.{length, drop, length-drop}
@@ -9,7 +9,8 @@ use lib.Seq.{length-take-le}
 use lib.Dec.{eqb, leb}
 use borrow.Author.Tests.{leb-true, eqb-true, le-leb, eq-eqb}
 use Rattle.segment.specs.Bytes.{byteAt}
-use Rattle.segment.specs.Header.{has, SYN, optionArea}
+use Rattle.segment.specs.Header.{has, SYN, RST, ACK, FIN, fieldsOf, kindOf, optionArea}
+use Rattle.segment.specs.declared.header.Kind.the-variants.{Syn, Rst, Ack, Other}
 use Rattle.segment.specs.declared.options.FastOpenOption.{FastOpenOption}
 use Rattle.segment.specs.declared.options.FastOpenOption.the-variants.{Absent, Request, Cookie}
 use Rattle.segment.specs.declared.options.Options.{Options}
@@ -90,6 +91,21 @@ cookie-bytes area at len h = length-take-le len (drop at area) (omega (arith, le
 pub no-syn : (seg : List ℕ) → has (byteAt seg 13) SYN ≡ false → optionsOf seg .fast ≡ Absent
 unfolding optionsOf
 no-syn seg e = rw e
+
+-- of an opening those in its area do
+syn-flag : (flags : ℕ) → kindOf flags ≡ Syn → has flags SYN ≡ true
+unfolding kindOf
+syn-flag flags e = go (has flags SYN) (has flags RST) (has flags ACK) e
+  where
+    go : (s r a : Bool) → cond s (cond (has flags ACK || (has flags RST || has flags FIN)) Other Syn) (cond r Rst (cond a Ack Other)) ≡ Syn → s ≡ true
+    go true r a k = refl
+    go false true a k = absurd (let z : _≡_ {A = ℕ} 0 1 = cc in omega arith)
+    go false false true k = absurd (let z : _≡_ {A = ℕ} 0 1 = cc in omega arith)
+    go false false false k = absurd (let z : _≡_ {A = ℕ} 0 1 = cc in omega arith)
+
+pub syn-options : (seg : List ℕ) → kindOf (fieldsOf seg .flags) ≡ Syn → optionsOf seg ≡ readOptions (optionArea seg)
+unfolding optionsOf fieldsOf
+syn-options seg e = rw (syn-flag (byteAt seg 13) e)
 
 -- and of any segment the cookie that counts lies in its option area
 pub inside-segment : (seg : List ℕ) → AllInside (length (optionArea seg)) (optionsOf seg .fast)
