@@ -1,109 +1,195 @@
--- A segment that passed the checks before its kind: the place that it changes, and its `step`. Assumes nothing.
-use Prim.Native.Nat.{ℕ, _<_}
-use mathlib.Core.Path.{_≡_, refl, sym}
-use mathlib.Core.Bool.{Bool, true, false, _||_, false≢true}
+-- A segment that passed the checks before its kind: what the code decides on its parts is `step`. Assumes nothing.
+use Prim.Native.Nat.{ℕ, _-_, _*_, _<_, min}
+use mathlib.Core.Path.{_≡_, refl, sym, ap, _∙_}
+use mathlib.Core.Bool.{Bool, true, false, not, _||_, false≢true}
 use mathlib.Core.List.{List, []}
-use native.Mathlib.Omega.{arith}
 use lib.Dec.{ltb}
-use lib.ListN.{length}
-use borrow.Author.Tests.{ltb-true, not-true, not-false}
+use lib.ListN.{length, take, drop}
+use borrow.Author.Tests.{ltb-true, not-false}
+use Rattle.lists.proofs.Elements.{set-same}
 use Rattle.segment.specs.Refusal.{refusal}
-use Rattle.segment.specs.Header.{fieldsOf, kindOf}
+use Rattle.segment.specs.Header.{malformed, fieldsOf, kindOf, optionArea, payloadOf}
 use Rattle.segment.specs.Write.{synAckBytes}
 use Rattle.segment.specs.declared.refusal.Refusal.{Refusal}
 use Rattle.segment.specs.declared.refusal.Check.the-variants.{Clear, Refused}
 use Rattle.segment.specs.declared.header.Header.{Header}
 use Rattle.segment.specs.declared.header.Kind.{Kind}
 use Rattle.segment.specs.declared.header.Kind.the-variants.{Syn, Rst, Ack, Other}
+use Rattle.segment.proofs.Malformed.{area-is, payload-is, offset-is}
 use Rattle.endpoint.specs.Address.{block}
 use Rattle.endpoint.specs.Checks.{isUntimely}
 use Rattle.endpoint.proofs.Clear.{every-check}
-use Rattle.protocol.specs.Table.{isWaiting, scanOf}
-use Rattle.listener.specs.Place.{placeOf}
-use Rattle.protocol.specs.Call.{segment, sender}
-use Rattle.protocol.specs.View.{ownAddress, viewFrom, view, known}
+use Rattle.protocol.specs.Table.{isFree, isWaiting, freeSlot, scanOf}
+use Rattle.protocol.specs.Call.{Call, segment, sender}
+use Rattle.protocol.specs.View.{ownAddress, slotAt, scanFor, view}
 use Rattle.protocol.specs.Refusals.{kindChecks, wireChecks}
-use Rattle.protocol.specs.Step.{isEarly, accepts, newEvent, openingEvent, segmentEvent, heldUntil, synAckFrom, writesSynAck, segmentAfter, put, step, outputOf}
+use Rattle.protocol.specs.Step.{cookiesEnabled, isEarly, isFresh, accepts, newEvent, segmentEvent, heldUntil, slotAfter, freshWith, synAckFrom, writesSynAck, segmentAfter, moved, put, step, outputOf}
 use Rattle.protocol.specs.declared.state.View.{View}
 use Rattle.protocol.specs.declared.state.Listener.{Listener}
 use Rattle.protocol.specs.declared.outcome.Event.{Event}
 use Rattle.protocol.specs.declared.outcome.Event.the-variants as events
-use Rattle.decisions.specs.declared.action.Action.{Action}
-use Rattle.protocol.specs.declared.slots.Status.the-variants as statuses
 use Rattle.protocol.specs.declared.slots.Slot.{Slot}
 use Rattle.protocol.specs.declared.slots.Scan.{Scan}
-use Rattle.decisions.proofs.Act.{Acts}
-use Rattle.table.proofs.ScanOf.{in-table}
 use Rattle.protocol.proofs.Table.{not-free}
-use Rattle.protocol.proofs.Step.{refusedWith, segment-refused, segment-writes-none, segment-writes}
+use Rattle.protocol.proofs.Step.{refusedWith, segment-refused, segment-writes-none, segment-writes, wired-formed}
+use Rattle.table.proofs.ScanOf.{in-table}
+use Rattle.decisions.specs.Parts.{isOpening, openingChecks, enabledWith, isEarlyWith, isFreshWith, laterChecks, laterEvent, laterSlot}
+use Rattle.decisions.specs.declared.action.Opened.{Opened}
+use Rattle.decisions.proofs.Parts.{opening-kind, early-with, fresh-with, later-checks, later-event, later-slot}
+use Rattle.decisions.proofs.Opened.{Opens}
 
--- the place that a done segment changes is in the table
-module _ (l : Listener) (t : ℕ) (scan : Scan) (n : length (l .slots) ≡ 64) where
-  abbrev its : View
-  its = viewFrom l t scan
+-- A new connection, early or plain
+module _ (l : Listener) (t : ℕ) (scan : Scan) (v : View) (b seg : List ℕ) (s : Slot) where
+  new-place : (early : Bool) (n : ℕ) → put l t (scan .free) s ≡ segmentAfter l t scan (newEvent early n) s
+  new-place true n = refl
+  new-place false n = refl
 
-  -- a connection that waits has its place
-  waiting-in-table : isWaiting (its .slot .status) ≡ true → scan .place < 64
-  waiting-in-table q = in-table (l .slots) (scan .place) n (not-free isWaiting refl (its .slot .status) q)
+  new-fresh : (early : Bool) (n : ℕ) → isFresh v b seg ≡ freshWith v b seg (newEvent early n)
+  new-fresh true n = refl
+  new-fresh false n = refl
 
-  pub place-in-table : (h : Header) (k : Kind) (b seg : List ℕ) → refusal (kindChecks its h k) ≡ Clear → placeOf (segmentEvent its b seg k) scan < 64
-  place-in-table h Syn b seg clear = go (known its) refl
-    where
-      free : known its ≡ false → scan .free < 64
-      free f =
-          let some : known its || ltb (scan .free) 64 ≡ true = not-false _ (every-check (kindChecks its h Syn) clear .1 .0) in
-          ltb-true (scan .free) 64 (rw f at some)
+  new-writes : (early : Bool) (n : ℕ) → writesSynAck (newEvent early n) ≡ true
+  new-writes true n = refl
+  new-writes false n = refl
 
-      new : (x : Bool) (m : ℕ) → scan .free < 64 → placeOf (newEvent x m) scan < 64
-      new true m f = f
-      new false m f = f
-
-      go : (x : Bool) → known its ≡ x → placeOf (openingEvent x its b seg) scan < 64
-      go true f = in-table (l .slots) (scan .place) n (not-true _ f)
-      go false f = new (isEarly its b seg) (accepts (its .settings) seg) (free f)
-  place-in-table h Ack b seg clear = waiting-in-table (not-false _ (every-check (kindChecks its h Ack) clear .0))
-  place-in-table h Rst b seg clear = waiting-in-table (not-false _ (every-check (kindChecks its h Rst) clear .0))
-  place-in-table h Other b seg clear = absurd (false≢true (sym (every-check (kindChecks its h Other) clear .0)))
-
-  pub changed-is : (e : Event) (s : Slot) → placeOf e scan < 64 → put l t (placeOf e scan) s ≡ segmentAfter l t scan e s
-  changed-is (events.FastOpened n) s h = refl
-  changed-is events.Regular s h = refl
-  changed-is events.Retransmission s h = refl
-  changed-is events.Completed s h = refl
-  changed-is events.WasReset s h = refl
-  changed-is events.Done s h = absurd (omega arith)
-  changed-is (events.Refused r) s h = absurd (omega arith)
-
--- A segment that passed the checks before its kind, with what was read and found
 module _ (l : Listener) (t : ℕ) (src seg : List ℕ) (iss out-len : ℕ) (first : refusal (wireChecks (l .local) (isUntimely (l .clock) t) src seg out-len) ≡ Clear)
-    {h : Header} {b : List ℕ} {scan : Scan} {v′ : View} {k : Kind} (eh : h ≡ fieldsOf seg) (eb : b ≡ block src) (ef : scan ≡ scanOf t b (h .source) (l .slots))
-    (ev : v′ ≡ viewFrom l t scan) (ek : k ≡ kindOf (h .flags)) where
-  pub taken-refused : {r : Refusal} → refusal (kindChecks v′ h k) ≡ Refused r
-      → (step l (segment t src seg iss out-len) ≡ refusedWith l r) × (outputOf l (segment t src seg iss out-len) ≡ [])
-  taken-refused q = segment-refused l t src seg iss out-len first (rw (ek, ev, ef, eb, eh) at q)
+    {h : Header} {b : List ℕ} (eh : h ≡ fieldsOf seg) (eb : b ≡ block src) where
+  abbrev this : Call
+  this = segment t src seg iss out-len
 
-  module _ (n : length (l .slots) ≡ 64) (second : refusal (kindChecks v′ h k) ≡ Clear) {end : ℕ} (ee : end ≡ heldUntil v′ t) (act : Action)
-      (acts : Acts v′ end b h iss seg (segmentEvent v′ b seg k) act) {i : ℕ} (ei : i ≡ placeOf (act .event) scan) where
-    acted : Acts (view l t (sender src seg)) (heldUntil (view l t (sender src seg)) t) (block src) (fieldsOf seg) iss seg
-        (segmentEvent (view l t (sender src seg)) (block src) seg (kindOf (fieldsOf seg .flags))) act
-    acted = rw (ee, ek, ev, ef, eb, eh) at acts
+  abbrev v : View
+  v = view l t (sender src seg)
 
-    event-in-table : placeOf (act .event) scan < 64
-    event-in-table = rw (acts .0, ev) (place-in-table l t scan n h k b seg (rw ev at second))
+  abbrev k : Kind
+  k = kindOf (fieldsOf seg .flags)
 
-    pub taken-in-table : i < 64
-    taken-in-table = rw ei event-in-table
+  -- An opening, with what a scan of the table found and the peer's slot
+  module _ {x : Kind} (ek : x ≡ kindOf (h .flags)) (opening : isOpening x ≡ true) {scan : Scan} {s : Slot} (ef : scan ≡ scanOf t b (h .source) (l .slots)) (es : s ≡ slotAt l (scan .place)) where
+    kind-is : k ≡ Syn
+    kind-is = sym (rw eh at ek) ∙ opening-kind x opening
 
-    moves : put l t i (act .slot) ≡ segmentAfter l t scan (act .event) (act .slot)
-    moves = rw ei (changed-is l t scan n (act .event) (act .slot) event-in-table)
+    scan-is : scan ≡ scanFor l t (sender src seg)
+    scan-is = rw (eb, eh) at ef
 
-    pub taken-writes-none : writesSynAck (act .event) ≡ false
-        → (record { listener = put l t i (act .slot); event = act .event; written = 0 } ≡ step l (segment t src seg iss out-len)) × (outputOf l (segment t src seg iss out-len) ≡ [])
-    taken-writes-none q =
-        segment-writes-none l t src seg iss out-len first (rw (ek, ev, ef, eb, eh) at second) (acted .0) (acted .1 .0) (rw (ef, eb, eh) at moves) q
+    slot-is : s ≡ v .slot
+    slot-is = rw scan-is at es
 
-    pub taken-writes : writesSynAck (act .event) ≡ true
-        → let bytes = synAckBytes (ownAddress (l .local)) src (synAckFrom (l .local) (l .settings .mss) (act .slot) (act .fresh)) (act .cookie) out-len in
-        (record { listener = put l t i (act .slot); event = act .event; written = length bytes } ≡ step l (segment t src seg iss out-len)) × (outputOf l (segment t src seg iss out-len) ≡ bytes)
-    taken-writes q =
-        segment-writes l t src seg iss out-len first (rw (ek, ev, ef, eb, eh) at second) (acted .0) (acted .1 .0) (rw (ef, eb, eh) at moves) (acted .1 .1 .0) (acted .1 .1 .1) q
+    checks-are : refusal (openingChecks s (ltb (scan .free) 64) h) ≡ refusal (kindChecks v (fieldsOf seg) k)
+    checks-are = rw (kind-is, slot-is, scan-is, eh) refl
+
+    pub opening-refused : {r : Refusal} → refusal (openingChecks s (ltb (scan .free) 64) h) ≡ Refused r → (step l this ≡ refusedWith l r) × (outputOf l this ≡ [])
+    opening-refused q = segment-refused l t src seg iss out-len first (sym checks-are ∙ q)
+
+    module _ (clear : refusal (openingChecks s (ltb (scan .free) 64) h) ≡ Clear) where
+      second : refusal (kindChecks v (fieldsOf seg) k) ≡ Clear
+      second = sym checks-are ∙ clear
+
+      abbrev synAck : Slot → Bool → List ℕ → List ℕ
+      synAck x fresh cookie = synAckBytes (ownAddress (l .local)) src (synAckFrom (l .local) (l .settings .mss) x fresh) cookie out-len
+
+      -- a repeat changes nothing but the clock
+      pub repeated : isFree (s .status) ≡ false → (cookie : List ℕ)
+          → (record { listener = moved l t (l .slots); event = events.Retransmission; written = length (synAck s false cookie) } ≡ step l this) × (outputOf l this ≡ synAck s false cookie)
+      repeated f cookie =
+          let known = rw slot-is at f in
+          segment-writes l t src seg iss out-len first second {e = events.Retransmission} {s = s} (rw (kind-is, known)) (rw (kind-is, known) slot-is)
+          (rw (slot-is, set-same (l .slots) (scanFor l t (sender src seg) .place) freeSlot)) {fresh = false} {cookie = cookie} (rw (kind-is, known)) (λ y. absurd (false≢true y)) refl
+
+      module _ (new : isFree (s .status) ≡ true) where
+        unknown : isFree (v .slot .status) ≡ true
+        unknown = rw slot-is at new
+
+        pub free-in-table : scan .free < 64
+        free-in-table =
+            let some : not (isFree (s .status)) || ltb (scan .free) 64 ≡ true = not-false _ (every-check (openingChecks s (ltb (scan .free) 64) h) clear .1 .0) in
+            ltb-true (scan .free) 64 (rw new at some)
+
+        module _ {enabled : Bool} {area payload : List ℕ} (ee : enabled ≡ enabledWith (l .settings) (scan .pending)) (ea : area ≡ take (4 * h .offset - 20) (drop 20 seg))
+            (ep : payload ≡ drop (4 * h .offset) seg) (r : Opened) (opens : Opens enabled (l .keys) b h iss area (min (length payload) (l .settings .«early_room»)) r) where
+          enabled-is : enabled ≡ cookiesEnabled v
+          enabled-is = rw scan-is at ee
+
+          formed : malformed seg ≡ false
+          formed = wired-formed (l .local) (isUntimely (l .clock) t) src seg out-len first
+
+          area-as : area ≡ optionArea seg
+          area-as = rw (eh, offset-is seg) at ea ∙ area-is seg formed
+
+          payload-as : payload ≡ payloadOf seg
+          payload-as = rw (eh, offset-is seg) at ep ∙ payload-is seg formed
+
+          early-as : isEarlyWith enabled (l .keys) b area ≡ isEarly v (block src) seg
+          early-as = rw (enabled-is, area-as, eb) (early-with v (block src) seg kind-is)
+
+          fresh-as : isFreshWith enabled (l .keys) b area ≡ isFresh v (block src) seg
+          fresh-as = rw (enabled-is, area-as, eb) (fresh-with v (block src) seg kind-is)
+
+          event-as : r .event ≡ newEvent (isEarly v (block src) seg) (accepts (l .settings) seg)
+          event-as = rw (early-as, payload-as) at (opens .0)
+
+          event-is : r .event ≡ segmentEvent v (block src) seg k
+          event-is = rw (kind-is, unknown) event-as
+
+          pub opened : (record { listener = put l t (scan .free) (r .slot); event = r .event; written = length (synAck (r .slot) (r .fresh) (r .cookie)) } ≡ step l this)
+              × (outputOf l this ≡ synAck (r .slot) (r .fresh) (r .cookie))
+          opened =
+              let e = isEarly v (block src) seg in
+              let n = accepts (l .settings) seg in
+              segment-writes l t src seg iss out-len first second {e = r .event} {s = r .slot} event-is
+              (rw (eb, eh, event-is) at (opens .1 .0 v (heldUntil v t)))
+              (rw event-as (rw scan-is (new-place l t (scanFor l t (sender src seg)) v (block src) seg (r .slot) e n)))
+              (opens .1 .1 .0 ∙ fresh-as ∙ (rw (sym event-is, event-as) (new-fresh l t scan v (block src) seg (r .slot) e n)))
+              (rw eb at (opens .1 .1 .1))
+              (rw event-as (new-writes l t scan v (block src) seg (r .slot) e n))
+
+  -- A later segment, with the place of its name and the slot there
+  module _ {x : Kind} (ek : x ≡ kindOf (h .flags)) (later : isOpening x ≡ false) {i : ℕ} {s : Slot} (ei : i ≡ scanOf t b (h .source) (l .slots) .place) (es : s ≡ slotAt l i) where
+    kind-as : x ≡ k
+    kind-as = rw eh at ek
+
+    no-opening : isOpening k ≡ false
+    no-opening = rw kind-as at later
+
+    place-is : i ≡ scanFor l t (sender src seg) .place
+    place-is = rw (eb, eh) at ei
+
+    peer-is : s ≡ v .slot
+    peer-is = rw place-is at es
+
+    later-are : refusal (laterChecks s h x) ≡ refusal (kindChecks v (fieldsOf seg) k)
+    later-are = rw (peer-is, eh, kind-as, later-checks v (fieldsOf seg) k no-opening) refl
+
+    pub later-refused : {r : Refusal} → refusal (laterChecks s h x) ≡ Refused r → (step l this ≡ refusedWith l r) × (outputOf l this ≡ [])
+    later-refused q = segment-refused l t src seg iss out-len first (sym later-are ∙ q)
+
+    module _ (clear : refusal (laterChecks s h x) ≡ Clear) where
+      -- it is a completion or a reset, and its connection waits
+      waits : (y : Kind) → refusal (laterChecks s h y) ≡ Clear → isWaiting (s .status) ≡ true
+      waits Ack q = not-false _ (every-check (laterChecks s h Ack) q .0)
+      waits Rst q = not-false _ (every-check (laterChecks s h Rst) q .0)
+      waits Syn q = absurd (false≢true (sym (every-check (laterChecks s h Syn) q .0)))
+      waits Other q = absurd (false≢true (sym (every-check (laterChecks s h Other) q .0)))
+
+      -- so it has its place
+      pub later-in-table : length (l .slots) ≡ 64 → i < 64
+      later-in-table n = in-table (l .slots) i n (rw es at (not-free isWaiting refl (s .status) (waits x clear)))
+
+      moves : (y : Kind) → refusal (laterChecks s h y) ≡ Clear → (z : Slot) → put l t i z ≡ segmentAfter l t (scanFor l t (sender src seg)) (laterEvent y) z
+      moves Ack q z = rw place-is
+      moves Rst q z = rw place-is
+      moves Syn q z = absurd (false≢true (sym (every-check (laterChecks s h Syn) q .0)))
+      moves Other q z = absurd (false≢true (sym (every-check (laterChecks s h Other) q .0)))
+
+      quiet : (y : Kind) → writesSynAck (laterEvent y) ≡ false
+      quiet Ack = refl
+      quiet Rst = refl
+      quiet Syn = refl
+      quiet Other = refl
+
+      pub later-done : {z : Slot} {e : Event} → z ≡ laterSlot s (heldUntil v t) x → e ≡ laterEvent x
+          → (record { listener = put l t i z; event = e; written = 0 } ≡ step l this) × (outputOf l this ≡ [])
+      later-done {z} {e} ez ee =
+          let event-is : e ≡ segmentEvent v (block src) seg k = ee ∙ rw kind-as (later-event v (block src) seg k no-opening) in
+          segment-writes-none l t src seg iss out-len first (sym later-are ∙ clear) event-is
+          (ez ∙ rw (peer-is, kind-as, sym (later-event v (block src) seg k no-opening)) (later-slot v (heldUntil v t) (block src) (fieldsOf seg) iss k))
+          (rw ee (moves x clear z)) (rw ee (quiet x))

@@ -4,14 +4,17 @@
 // A listener is large, and a function that takes one and indexes its slots copies it. So each call scans the table itself, in the copy that becomes the
 // next listener, which it makes only after its first checks; and each of its ends is a `return`.
 use cipher::expand_key;
-use decisions::action::act;
-use decisions::action::writes_syn_ack;
+use decisions::action::cookies_enabled;
+use decisions::action::is_opening;
+use decisions::action::later_event;
+use decisions::action::later_slot;
+use decisions::action::open_new;
 use decisions::checks::Received;
-use decisions::checks::check_kind;
+use decisions::checks::check_later;
+use decisions::checks::check_opening;
 use decisions::checks::check_output;
 use decisions::checks::is_in_range;
 use decisions::checks::receive;
-use decisions::view::view_of;
 use endpoint::address::Family;
 use endpoint::address::block_of;
 use endpoint::address::family_of;
@@ -23,7 +26,6 @@ use protocol::outcome::Event;
 use protocol::outcome::Outcome;
 use protocol::outcome::Started;
 use protocol::slots::SLOTS;
-use protocol::slots::Scan;
 use protocol::slots::Slot;
 use protocol::slots::Status;
 use protocol::state::FRESH_MSS;
@@ -32,7 +34,9 @@ use protocol::state::Listener;
 use protocol::state::LocalEndpoint;
 use protocol::state::Settings;
 use protocol::state::StoredSettings;
+use segment::header::area_within;
 use segment::header::kind_of;
+use segment::header::payload_after;
 use segment::refusal::Check;
 use segment::refusal::Refusal;
 use segment::write::SynAck;
@@ -40,11 +44,13 @@ use segment::write::write_syn_ack;
 use table::scan::count_if;
 use table::scan::empty_scan;
 use table::scan::index_in_table;
+use table::scan::is_named;
 use table::scan::scan_slot;
 use table::scan::slot_found;
 use table::slot::accepted_with;
 use table::slot::free_slot;
 use table::slot::is_established;
+use table::slot::is_free;
 use table::slot::is_pending;
 use table::slot::is_waiting;
 use table::slot::with_status;
@@ -54,7 +60,6 @@ ghost use lib.ListN.{length};
 ghost use Rattle.segment.specs.Write.{synAckBytes};
 ghost use Rattle.lists.specs.Bytes.{overwrite};
 ghost use Rattle.protocol.specs.Table.{pendingAt};
-ghost use Rattle.listener.specs.Place.{placeOf};
 ghost use Rattle.protocol.specs.View.{ownAddress};
 ghost use Rattle.protocol.specs.Call.{Call};
 ghost use Rattle.protocol.specs.Refusals.{isReleasable, releaseOf};
@@ -205,21 +210,6 @@ fn write_from(
     write_syn_ack(out, &own[..n], dst, a, cookie)
 }
 
-// The place whose slot a done segment changes, 64 for none: a new connection takes the lowest free one, a known one keeps its own.
-fn place_of(event: Event, scan: Scan) -> usize
-    ensures { λ r. ⌜ r ≡ placeOf event scan ⌝ }
-{
-    match event {
-        Event::Refused(_) => SLOTS,
-        Event::FastOpened(_) => scan.free,
-        Event::Regular => scan.free,
-        Event::Retransmission => scan.place,
-        Event::Completed => scan.place,
-        Event::WasReset => scan.place,
-        Event::Done => SLOTS,
-    }
-}
-
 // Takes a segment of any kind from a source address. `iss` is our initial number, should it open a connection; an output of under 36 bytes is
 // refused, whatever the kind.
 pub fn segment(l: Listener, time: u64, src: &[u8], seg: &[u8], iss: u32, out: &mut [u8]) -> Outcome
@@ -233,53 +223,100 @@ pub fn segment(l: Listener, time: u64, src: &[u8], seg: &[u8], iss: u32, out: &m
         }
         Received::Read(h) => {
             let mut next = l;
-            let b = block_of(src);
-            let mut scan = empty_scan();
-            for i in 0..SLOTS {
-                let s = next.slots[i];
-                let more = scan_slot(scan, i, time, b, h.source, s);
-                scan = more;
-            }
-            let at = index_in_table(scan.place);
-            let s = next.slots[at];
-            let slot = slot_found(scan.place, s);
             let settings = next.settings;
-            let keys = next.keys;
-            let v = view_of(local, next.clock, settings, keys, time, scan, slot);
+            let b = block_of(src);
             let kind = kind_of(h.flags);
-            match check_kind(v, h, kind) {
+            if is_opening(kind) {
+                let mut scan = empty_scan();
+                for i in 0..SLOTS {
+                    let s = next.slots[i];
+                    let more = scan_slot(scan, i, time, b, h.source, s);
+                    scan = more;
+                }
+                let at = index_in_table(scan.place);
+                let s = next.slots[at];
+                let slot = slot_found(scan.place, s);
+                match check_opening(slot, scan.free < SLOTS, h) {
+                    Check::Refused(why) => {
+                        return refused(next, why);
+                    }
+                    Check::Clear => {
+                        let status = slot.status;
+                        if !is_free(status) {
+                            let cookie = [0u8; 8];
+                            let written = write_from(
+                                out,
+                                local,
+                                settings.mss,
+                                src,
+                                slot,
+                                false,
+                                cookie,
+                            );
+                            next.clock = time;
+                            return Outcome {
+                                listener: next,
+                                event: Event::Retransmission,
+                                written,
+                            };
+                        }
+                        let keys = next.keys;
+                        let opened = open_new(
+                            cookies_enabled(settings, scan.pending),
+                            settings,
+                            keys,
+                            b,
+                            h,
+                            iss,
+                            area_within(seg, h.offset),
+                            payload_after(seg, h.offset),
+                        );
+                        let event = opened.event;
+                        let new = opened.slot;
+                        let cookie = opened.cookie;
+                        let written = write_from(
+                            out,
+                            local,
+                            settings.mss,
+                            src,
+                            new,
+                            opened.fresh,
+                            cookie,
+                        );
+                        let i = scan.free;
+                        next.slots[i] = new;
+                        next.clock = time;
+                        return Outcome {
+                            listener: next,
+                            event,
+                            written,
+                        };
+                    }
+                }
+            }
+            let mut place: usize = 0;
+            while place < SLOTS {
+                let s = next.slots[place];
+                if is_named(time, b, h.source, s) {
+                    break;
+                }
+                place += 1;
+            }
+            let at = index_in_table(place);
+            let s = next.slots[at];
+            let slot = slot_found(place, s);
+            match check_later(slot, h, kind) {
                 Check::Refused(why) => {
                     return refused(next, why);
                 }
                 Check::Clear => {
-                    let end = time + (settings.hold as u64);
-                    let action = act(v, end, b, h, iss, seg, kind);
-                    let event = action.event;
-                    let changed = action.slot;
-                    let cookie = action.cookie;
-                    let i = place_of(event, scan);
-                    next.slots[i] = changed;
+                    let changed = later_slot(slot, time + (settings.hold as u64), kind);
+                    next.slots[place] = changed;
                     next.clock = time;
-                    if !writes_syn_ack(event) {
-                        return Outcome {
-                            listener: next,
-                            event,
-                            written: 0,
-                        };
-                    }
-                    let written = write_from(
-                        out,
-                        local,
-                        settings.mss,
-                        src,
-                        changed,
-                        action.fresh,
-                        cookie,
-                    );
                     return Outcome {
                         listener: next,
-                        event,
-                        written,
+                        event: later_event(kind),
+                        written: 0,
                     };
                 }
             }
@@ -350,13 +387,14 @@ fn free_named(l: Listener, time: u64, addr: &[u8], port: u16, established: bool)
         Check::Clear => {
             let mut next = l;
             let b = block_of(addr);
-            let mut scan = empty_scan();
-            for i in 0..SLOTS {
-                let s = next.slots[i];
-                let more = scan_slot(scan, i, time, b, port, s);
-                scan = more;
+            let mut place: usize = 0;
+            while place < SLOTS {
+                let s = next.slots[place];
+                if is_named(time, b, port, s) {
+                    break;
+                }
+                place += 1;
             }
-            let place = scan.place;
             let at = index_in_table(place);
             let s = next.slots[at];
             let slot = slot_found(place, s);
@@ -408,15 +446,17 @@ pub fn resend(l: Listener, time: u64, addr: &[u8], port: u16, out: &mut [u8]) ->
         Check::Clear => {
             let mut next = l;
             let b = block_of(addr);
-            let mut scan = empty_scan();
-            for i in 0..SLOTS {
-                let s = next.slots[i];
-                let more = scan_slot(scan, i, time, b, port, s);
-                scan = more;
+            let mut place: usize = 0;
+            while place < SLOTS {
+                let s = next.slots[place];
+                if is_named(time, b, port, s) {
+                    break;
+                }
+                place += 1;
             }
-            let at = index_in_table(scan.place);
+            let at = index_in_table(place);
             let s = next.slots[at];
-            let slot = slot_found(scan.place, s);
+            let slot = slot_found(place, s);
             let status = slot.status;
             if !is_waiting(status) {
                 return refused(next, Refusal::NoConnection);

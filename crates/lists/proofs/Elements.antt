@@ -1,9 +1,9 @@
 -- A list's elements, one by one. Assumes nothing.
-use Prim.Native.Nat.{ℕ, _≤_}
-use mathlib.Core.Path.{_≡_, refl}
+use Prim.Native.Nat.{ℕ, zero, suc, _≤_}
+use mathlib.Core.Path.{_≡_, refl, ap}
 use mathlib.Core.List.{List, [], _∷_}
 use native.Mathlib.Omega.{arith}
-use lib.ListN.{length, take, getD}
+use lib.ListN.{length, take, getD, set}
 
 -- the first eight of some bytes
 pub eight : (xs : List ℕ) → 8 ≤ length xs
@@ -17,3 +17,10 @@ eight (a ∷ b ∷ c ∷ d ∷ e ∷ []) h = absurd (omega arith)
 eight (a ∷ b ∷ c ∷ d ∷ e ∷ f ∷ []) h = absurd (omega arith)
 eight (a ∷ b ∷ c ∷ d ∷ e ∷ f ∷ g ∷ []) h = absurd (omega arith)
 eight (a ∷ b ∷ c ∷ d ∷ e ∷ f ∷ g ∷ i ∷ xs) h = refl
+
+-- one that is put where it stands changes nothing
+module _ {A : Type 0} where
+  pub set-same : (xs : List A) (i : ℕ) (d : A) → set xs i (getD xs i d) ≡ xs
+  set-same [] i d = refl
+  set-same (x ∷ xs) zero d = refl
+  set-same (x ∷ xs) (suc i) d = ap (λ (ys : List A). x ∷ ys) (set-same xs i d)

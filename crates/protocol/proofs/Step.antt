@@ -7,7 +7,7 @@ use lib.Dec.{leb}
 use lib.ListN.{length}
 use borrow.Author.Tests.{eq-eqb, ne-eqb, leb-true, not-false}
 use Rattle.segment.specs.Refusal.{refusal}
-use Rattle.segment.specs.Header.{fieldsOf, kindOf}
+use Rattle.segment.specs.Header.{malformed, fieldsOf, kindOf}
 use Rattle.segment.specs.Write.{synAckBytes}
 use Rattle.lists.specs.Bytes.{overwrite}
 use Rattle.segment.specs.declared.refusal.Refusal.{Refusal}
@@ -242,7 +242,7 @@ module _ (l : Listener) (t : ℕ) (a : List ℕ) (p out-len : ℕ) (out : List �
       let f = rw (ex, same) at e′ in
       (rw (f .0) (sym (q .0)), f .1 ∙ ap (λ (z : List ℕ). overwrite z out) (sym (q .1)))
 
--- what follows for its address and time from a call's clear checks
+-- what follows for its address, its time and its segment from a call's clear checks
 module _ (h : LocalEndpoint) (untimely : Bool) (a : List ℕ) where
   pub output-short-address : (out-len : ℕ) → refusal (timely (h .started) untimely ++ addressed (h .family) a ++ outputChecks out-len) ≡ Clear → length a ≤ 16
   output-short-address out-len e = family-short (h .family) a (not-false _ (every-check (timely (h .started) untimely ++ addressed (h .family) a ++ outputChecks out-len) e .1 .1 .0))
@@ -252,6 +252,9 @@ module _ (h : LocalEndpoint) (untimely : Bool) (a : List ℕ) where
 
   pub wired-timely : (seg : List ℕ) (out-len : ℕ) → refusal (wireChecks h untimely a seg out-len) ≡ Clear → untimely ≡ false
   wired-timely seg out-len e = every-check (wireChecks h untimely a seg out-len) e .1 .0
+
+  pub wired-formed : (seg : List ℕ) (out-len : ℕ) → refusal (wireChecks h untimely a seg out-len) ≡ Clear → malformed seg ≡ false
+  wired-formed seg out-len e = every-check (wireChecks h untimely a seg out-len) e .1 .1 .1 .1 .0
 
 -- settings in range have an MSS of two bytes
 pub mss-most : (g : Settings) → inRange g ≡ true → g .mss ≤ 1460

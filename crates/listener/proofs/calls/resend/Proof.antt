@@ -4,6 +4,7 @@
 use Prim.Native.Nat.{_-_}
 use mathlib.Core.Path.{_≡_, sym, _∙_}
 use mathlib.Core.List.{_++_}
+use mathlib.Core.Logic.{⊎-elim}
 use native.Mathlib.Omega.{arith}
 use lib.ListN.{length, length-map, replicate}
 use borrow.Author.Tests.{not-true, not-false}
@@ -17,15 +18,15 @@ use Rattle.protocol.specs.Table.{isWaiting, scanOf}
 use Rattle.protocol.specs.View.{slotAt, view}
 use Rattle.protocol.specs.Refusals.{outputChecks}
 use Rattle.protocol.proofs.Step.{resend-stopped, resend-none, resend-done, output-short-address, unwritten, resent}
-use Rattle.listener.proofs.View.{ScanLoop, loop-start, loop-on, scan-found, peer-slot}
+use Rattle.listener.proofs.View.{SearchLoop, search-start, search-on, search-past, search-hit, slot-at, peer-slot}
 use Rattle.listener.proofs.calls.resend.Statement.{statement}
 use Rattle.listener.proofs.calls.resend.Tie as tie
 
 abbrev Inv-loop : tie.InvT-loop
-Inv-loop time addr port out local next b scan₀ i₀ scan i = ScanLoop time b port (next .slots) i scan
+Inv-loop time addr port out local next b place₀ place = SearchLoop time b port (next .slots) place
 
 abbrev μ-loop : tie.MeasureT-loop
-μ-loop time addr port out local next b scan₀ i₀ scan i = 64 - i
+μ-loop time addr port out local next b place₀ place = 64 - place
 
 -- After the first checks
 abbrev entry : tie.After-check-output Inv-loop μ-loop → tie.Start Inv-loop μ-loop
@@ -53,35 +54,41 @@ module _ (c : tie.After-block-of Inv-loop μ-loop) where
 
 -- The loop is at a place
 abbrev blocked : tie.At-loop Inv-loop μ-loop → tie.After-block-of Inv-loop μ-loop
-blocked c = c .before .before
+blocked c = c .before
+
+-- The search is over: past the table, or at the name
+module _ (c : tie.Left-loop Inv-loop μ-loop) where
+  abbrev named : tie.After-block-of Inv-loop μ-loop
+  named = blocked (c .before)
+
+  abbrev start : tie.Start Inv-loop μ-loop
+  start = began named
+
+  place-is : c .before .loop .place ≡ scanOf (start .args .time) (named .block-of .result) (start .args .port) (start .args .l .slots) .place
+  place-is =
+      ⊎-elim
+      (λ past. search-past _ _ _ _ (full named) (c .before .loop .place) (c .before .loop .inv) (past .left))
+      (λ hit. search-hit _ _ _ _ (full named) (c .before .loop .place) (c .before .loop .inv) _ (hit .0 .taken) (hit .2 .ensures) (hit .3 .taken))
+      (c .loop-test .came)
 
 -- The peer's slot has been read, and whether it waits is known
 module _ (c : tie.After-is-waiting Inv-loop μ-loop) where
   abbrev read : tie.After-slot-found Inv-loop μ-loop
   read = c .before
 
-  abbrev scanned : tie.At-loop Inv-loop μ-loop
-  scanned = read .before .before .before .before
-
-  abbrev named : tie.After-block-of Inv-loop μ-loop
-  named = blocked scanned
-
-  abbrev start : tie.Start Inv-loop μ-loop
-  start = began named
+  abbrev over : tie.Left-loop Inv-loop μ-loop
+  over = read .before .before .before
 
   abbrev peer : Peer
-  peer = record { address = start .args .addr .now; port = start .args .port }
+  peer = record { address = start over .args .addr .now; port = start over .args .port }
 
-  found : (scanned .loop .scan ≡ scanOf (start .args .time) (named .block-of .result) (start .args .port) (start .args .l .slots))
-      × (read .slot-found .result ≡ slotAt (start .args .l) (scanned .loop .scan .place))
-  found =
-      scan-found (start .args .l) (start .args .time) _ _ (scanned .loop .i) (scanned .loop .scan) _ _ (full named) (read .before .before .before .loop-test .left) (scanned .loop .inv)
-      (read .before .before .index-in-table .ensures) (read .slot-found .ensures)
+  slot-is : read .slot-found .result ≡ slotAt (start over .args .l) (over .before .loop .place)
+  slot-is = slot-at (start over .args .l) _ _ _ (full (named over)) (read .before .before .index-in-table .ensures) (read .slot-found .ensures)
 
-  peer-is : read .slot-found .result ≡ view (start .args .l) (start .args .time) peer .slot
-  peer-is = peer-slot (start .args .l) (start .args .time) (start .args .addr .now) (start .args .port) (block-is named) (found .0) (found .1)
+  peer-is : read .slot-found .result ≡ view (start over .args .l) (start over .args .time) peer .slot
+  peer-is = peer-slot (start over .args .l) (start over .args .time) (start over .args .addr .now) (start over .args .port) (block-is (named over)) (place-is over) slot-is
 
-  waits : isWaiting (view (start .args .l) (start .args .time) peer .slot .status) ≡ c .is-waiting .result
+  waits : isWaiting (view (start over .args .l) (start over .args .time) peer .slot .status) ≡ c .is-waiting .result
   waits = sym (rw peer-is at (c .is-waiting .ensures))
 
 returns : tie.Need-returns Inv-loop μ-loop
@@ -91,12 +98,14 @@ returns c =
     unwritten (a .out .now) (c .refused .ensures) (resend-stopped (a .l) (a .time) (a .addr .now) (a .port) (length (a .out .now)) (sym (checked .check-output .ensures) ∙ c .before .before .why .given .1))
 
 loop-holds : tie.Need-loop-holds Inv-loop μ-loop
-loop-holds c = loop-start _ _ _ _ (full (c .before)) _ (c .empty-scan .ensures)
+loop-holds c =
+    let a = began c .args in
+    search-start (a .time) (c .block-of .result) (a .port) (a .l .slots) (full c)
 
 loop-again : tie.Need-loop-again Inv-loop μ-loop
 loop-again c =
-    let at = c .before .before .before in
-    loop-on _ _ _ (began (blocked at) .args .l .slots) (full (blocked at)) (at .loop .i) _ _ _ (omega arith) (at .loop .inv) (c .scan-slot .ensures)
+    let at = c .before .before .before .before in
+    search-on _ _ _ _ (full (blocked at)) (at .loop .place) (at .loop .inv) _ (c .before .before .before .loop-test .taken) (c .before .is-named .ensures) (c .if1 .left)
 
 mul-s-2 : tie.Need-mul-s-2 Inv-loop μ-loop
 mul-s-2 c = omega (arith, c .index-in-table .ensures .1)
@@ -107,17 +116,17 @@ element-copy-out-s-2 c = omega (arith, c .index-in-table .ensures .1)
 returns-2 : tie.Need-returns-2 Inv-loop μ-loop
 returns-2 c =
     let p = c .before .before in
-    let a = start p .args in
-    unwritten (a .out .now) (c .refused2 .ensures) (resend-none (a .l) (a .time) (a .addr .now) (a .port) (length (a .out .now)) (clear (named p)) (waits p ∙ not-true _ (c .before .if1 .taken)))
+    let a = start (over p) .args in
+    unwritten (a .out .now) (c .refused2 .ensures) (resend-none (a .l) (a .time) (a .addr .now) (a .port) (length (a .out .now)) (clear (named (over p))) (waits p ∙ not-true _ (c .before .if2 .taken)))
 
 returns-3 : tie.Need-returns-3 Inv-loop μ-loop
 returns-3 c =
     let wrote = c .before .before in
     let passed = wrote .before .before .before in
     let p = passed .before in
-    let a = start p .args in
+    let a = start (over p) .args in
     resent (a .l) (a .time) (a .addr .now) (a .port) (length (a .out .now)) (a .out .now)
-    (resend-done (a .l) (a .time) (a .addr .now) (a .port) (length (a .out .now)) (clear (named p)) (waits p ∙ not-false _ (passed .if1 .left)))
+    (resend-done (a .l) (a .time) (a .addr .now) (a .port) (length (a .out .now)) (clear (named (over p))) (waits p ∙ not-false _ (passed .if2 .left)))
     (peer-is p) (replicate 8 0) (wrote .write-from .ensures)
 
 pub resend-spec : {M : Type 1} → statement M
@@ -125,7 +134,6 @@ resend-spec =
     tie.close
     (tie.spec
     Inv-loop μ-loop (λ c κs. search needs) (λ c. search needs) (λ c κs. search needs) returns (λ c. search needs)
-    (λ c κs. search needs) (λ c κs. search needs) loop-holds (λ c. search needs) (λ c. search needs)
-    (λ c κs. search needs) (λ c. search needs) (λ c. search needs) loop-again (λ c κs. search needs) mul-s-2
-    element-copy-out-s-2 (λ c κs. search needs) (λ c κs. search needs) (λ c κs. search needs) returns-2
+    (λ c κs. search needs) loop-holds (λ c. search needs) (λ c. search needs) (λ c κs. search needs) (λ c. search needs) (λ c. search needs)
+    loop-again (λ c κs. search needs) mul-s-2 element-copy-out-s-2 (λ c κs. search needs) (λ c κs. search needs) (λ c κs. search needs) returns-2
     (λ c κs. search needs) (λ c. search needs) returns-3)
