@@ -55,7 +55,8 @@ fn accept(payload: &[u8], early_room: u32) -> u32
 pub fn cookies_enabled(g: StoredSettings, pending: u32) -> bool
     ensures { λ r. ⌜ r ≡ enabledWith g pending ⌝ }
 {
-    if g.on { pending < g.limit } else { false }
+    let below = pending < g.limit;
+    if g.on { below } else { false }
 }
 
 // A new connection. The keys are read only where cookies are enabled and an option counts.

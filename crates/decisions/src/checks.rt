@@ -2,6 +2,7 @@
 use endpoint::address::size_of;
 use endpoint::checks::check_name;
 use protocol::slots::Slot;
+use protocol::slots::Status;
 use protocol::state::LocalEndpoint;
 use protocol::state::MOST_EARLY_ROOM;
 use protocol::state::MOST_HOLD;
@@ -20,6 +21,7 @@ use segment::sequence::in_window;
 use segment::sequence::next_after;
 use segment::write::LONGEST_SYN_ACK;
 use table::slot::accepted_with;
+use table::slot::is_established;
 use table::slot::is_free;
 use table::slot::is_waiting;
 ghost use mathlib.Core.Path.{_≡_};
@@ -27,7 +29,7 @@ ghost use mathlib.Core.List.{_++_};
 ghost use Rattle.segment.specs.Refusal.{refusal};
 ghost use Rattle.segment.specs.Header.{fieldsOf};
 ghost use Rattle.endpoint.specs.Checks.{isUntimely, timely, addressed};
-ghost use Rattle.protocol.specs.Refusals.{inRange, repeats, completes, resets, expected, outputChecks, sequenceChecks, wireChecks};
+ghost use Rattle.protocol.specs.Refusals.{inRange, isReleasable, repeats, completes, resets, expected, outputChecks, sequenceChecks, wireChecks};
 ghost use Rattle.decisions.specs.Received.{received};
 ghost use Rattle.decisions.specs.Parts.{openingChecks, laterChecks};
 
@@ -186,4 +188,14 @@ pub fn is_in_range(g: Settings) -> bool
         return false;
     }
     g.mss <= MOST_MSS
+}
+
+// Whether a call by name may free the connection: close an established one, abandon one that waits.
+pub fn is_releasable(established: bool, s: Status) -> bool
+    ensures { λ r. ⌜ r ≡ isReleasable established s ⌝ }
+{
+    if established {
+        return is_established(s);
+    }
+    is_waiting(s)
 }

@@ -14,19 +14,19 @@ use decisions::checks::check_later;
 use decisions::checks::check_opening;
 use decisions::checks::check_output;
 use decisions::checks::is_in_range;
+use decisions::checks::is_releasable;
 use decisions::checks::receive;
+use decisions::reply::write_from;
 use endpoint::address::Family;
 use endpoint::address::block_of;
 use endpoint::address::family_of;
 use endpoint::address::is_size;
-use endpoint::address::size_of;
 use endpoint::checks::check_name;
 use endpoint::checks::check_time;
 use protocol::outcome::Event;
 use protocol::outcome::Outcome;
 use protocol::outcome::Started;
 use protocol::slots::SLOTS;
-use protocol::slots::Slot;
 use protocol::slots::Status;
 use protocol::state::FRESH_MSS;
 use protocol::state::Keys;
@@ -39,17 +39,13 @@ use segment::header::kind_of;
 use segment::header::payload_after;
 use segment::refusal::Check;
 use segment::refusal::Refusal;
-use segment::write::SynAck;
-use segment::write::write_syn_ack;
 use table::scan::count_if;
 use table::scan::empty_scan;
 use table::scan::index_in_table;
 use table::scan::is_named;
 use table::scan::scan_slot;
 use table::scan::slot_found;
-use table::slot::accepted_with;
 use table::slot::free_slot;
-use table::slot::is_established;
 use table::slot::is_free;
 use table::slot::is_pending;
 use table::slot::is_waiting;
@@ -57,13 +53,11 @@ use table::slot::with_status;
 ghost use mathlib.Core.Path.{_≡_};
 ghost use Prim.Native.Nat.{_≤_};
 ghost use lib.ListN.{length};
-ghost use Rattle.segment.specs.Write.{synAckBytes};
 ghost use Rattle.lists.specs.Bytes.{overwrite};
 ghost use Rattle.protocol.specs.Table.{pendingAt};
-ghost use Rattle.protocol.specs.View.{ownAddress};
 ghost use Rattle.protocol.specs.Call.{Call};
-ghost use Rattle.protocol.specs.Refusals.{isReleasable, releaseOf};
-ghost use Rattle.protocol.specs.Step.{blank, freshListener, neverStarted, startOf, synAckFrom, step, outputOf, pendingNumber};
+ghost use Rattle.protocol.specs.Refusals.{releaseOf};
+ghost use Rattle.protocol.specs.Step.{blank, freshListener, neverStarted, startOf, step, outputOf, pendingNumber};
 
 // A refused call changes nothing.
 fn refused(l: Listener, why: Refusal) -> Outcome
@@ -179,35 +173,6 @@ pub fn start(own: &[u8], port: u16, key: &[u8]) -> Started
         listener: fresh_listener(own, port, key),
         check: Check::Clear,
     }
-}
-
-// Writes the SYN-ACK from a slot.
-fn write_from(
-    out: &mut [u8],
-    local: LocalEndpoint,
-    mss: u16,
-    dst: &[u8],
-    s: Slot,
-    fresh: bool,
-    cookie: [u8; 8],
-) -> usize
-    ensures { λ r. ⌜ r ≡ length (synAckBytes (ownAddress local) (now (dst .entry)) (synAckFrom local mss s fresh) cookie (length (now (out .entry)))) ⌝ }
-    ensures { λ _. ⌜ now (out .exit) ≡ overwrite (synAckBytes (ownAddress local) (now (dst .entry)) (synAckFrom local mss s fresh) cookie (length (now (out .entry)))) (now (out .entry)) ⌝ }
-{
-    let family = local.family;
-    let own = local.own;
-    let n = size_of(family);
-    let status = s.status;
-    let a = SynAck {
-        source: local.port,
-        dest: s.port,
-        iss: s.iss,
-        irs: s.irs,
-        accepted: accepted_with(status),
-        mss,
-        fresh,
-    };
-    write_syn_ack(out, &own[..n], dst, a, cookie)
 }
 
 // Takes a segment of any kind from a source address. `iss` is our initial number, should it open a connection; an output of under 36 bytes is
@@ -408,15 +373,6 @@ fn free_named(l: Listener, time: u64, addr: &[u8], port: u16, established: bool)
             return done(next);
         }
     }
-}
-
-fn is_releasable(established: bool, s: Status) -> bool
-    ensures { λ r. ⌜ r ≡ isReleasable established s ⌝ }
-{
-    if established {
-        return is_established(s);
-    }
-    is_waiting(s)
 }
 
 // Abandons a connection whose handshake is not complete.

@@ -5,7 +5,7 @@ use Rattle.decisions.proofs.action.cookies_enabled.Statement.{statement
 use Rattle.decisions.proofs.action.cookies_enabled.Tie as tie
 
 returns : tie.Need-returns
-returns c = rw (c .before .if1 .taken) refl
+returns c = rw (c .if1 .taken) refl
 
 returns-2 : tie.Need-returns-2
 returns-2 c = rw (c .if1 .left) refl

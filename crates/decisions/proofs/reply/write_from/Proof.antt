@@ -1,9 +1,9 @@
--- `listener::calls::write_from` meets its contract: the SYN-ACK's fields come from the slot.
+-- `decisions::reply::write_from` meets its contract: the SYN-ACK's fields come from the slot.
 -- Assumes nothing.
 use Rattle.endpoint.proofs.Blocks.{own-most, own-part}
 use borrow.Author.Needs.{needs}
-use Rattle.listener.proofs.calls.write_from.Statement.{statement}
-use Rattle.listener.proofs.calls.write_from.Tie as tie
+use Rattle.decisions.proofs.reply.write_from.Statement.{statement}
+use Rattle.decisions.proofs.reply.write_from.Tie as tie
 
 array-share-prefix-own : tie.Need-array-share-prefix-own
 array-share-prefix-own c =
