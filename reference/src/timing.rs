@@ -8,6 +8,7 @@ use crate::listener::{cookie, Kind, Listener, Reply, Settings, LEAST_OUTPUT, SLO
 use crate::wire::{self, Header, Refusal, ACK, SYN};
 
 const KEY: [u8; 16] = [0, 1, 2, 3, 4, 5, 6, 7, 8, 9, 10, 11, 12, 13, 14, 15];
+const NEXT_KEY: [u8; 16] = [16, 17, 18, 19, 20, 21, 22, 23, 24, 25, 26, 27, 28, 29, 30, 31];
 const OWN: [u8; 4] = [192, 0, 2, 2];
 const OWN_PORT: u16 = 443;
 const PEER: [u8; 4] = [192, 0, 2, 1];
@@ -24,8 +25,13 @@ pub fn run(work: &str, count: u64, live: usize, payload: usize) -> Option<u64> {
         "expand" => Some(expand(count)),
         "checksum" => Some(checksum(count, payload)),
         "options" => Some(options(count)),
-        "early" => Some(opened_and_abandoned(count, live, &early_opening(payload))),
-        "request" => Some(opened_and_abandoned(count, live, &request_opening(PEER_PORT))),
+        "early" => Some(Bench::new(live).open_and_abandon(count, &early_opening(payload))),
+        "turned" => {
+            let mut bench = Bench::new(live);
+            bench.listener.key(0, &NEXT_KEY).expect("a right key");
+            Some(bench.open_and_abandon(count, &early_opening(payload)))
+        }
+        "request" => Some(Bench::new(live).open_and_abandon(count, &request_opening(PEER_PORT))),
         "repeat" => Some(repeat(count, live, payload)),
         "completion" => Some(completion(count, live, payload)),
         "refusal" => {
@@ -161,16 +167,15 @@ impl Bench {
         let number = result.map_or_else(Refusal::number, |()| 0);
         self.digest = self.digest.wrapping_add(number.into());
     }
-}
 
-fn opened_and_abandoned(count: u64, live: usize, opening: &[u8]) -> u64 {
-    let mut bench = Bench::new(live);
-    for turn in 0..count {
-        bench.add_segment(turn as u32, opening);
-        let result = bench.listener.abandon(0, black_box(&PEER), black_box(PEER_PORT));
-        bench.add_number(result);
+    fn open_and_abandon(mut self, count: u64, opening: &[u8]) -> u64 {
+        for turn in 0..count {
+            self.add_segment(turn as u32, opening);
+            let result = self.listener.abandon(0, black_box(&PEER), black_box(PEER_PORT));
+            self.add_number(result);
+        }
+        self.digest
     }
-    bench.digest
 }
 
 fn openings(count: u64, live: usize, opening: &[u8]) -> u64 {

@@ -1,8 +1,11 @@
--- Statuses. Assumes nothing.
+-- Statuses, and the slot of a name. Assumes nothing.
 use Prim.Native.Nat.{ℕ}
 use mathlib.Core.Path.{_≡_, refl, sym, _∙_}
-use mathlib.Core.Bool.{Bool, true, false, false≢true}
-use Rattle.protocol.specs.Table.{isLive, isPending, isFree}
+use mathlib.Core.Bool.{Bool, true, false, false≢true, and-true, and-false}
+use mathlib.Core.List.{List}
+use Rattle.endpoint.specs.Address.{sameName}
+use Rattle.protocol.specs.Table.{isLive, isPending, isFree, holdsPeer}
+use Rattle.protocol.specs.declared.slots.Slot.{Slot}
 use Rattle.protocol.specs.declared.slots.Status.{Status}
 use Rattle.protocol.specs.declared.slots.Status.the-variants.{Free, SynReceived, SynReceivedEarly, ResetHeld, Established}
 
@@ -21,3 +24,21 @@ idle t SynReceived e = refl
 idle t (SynReceivedEarly n) e = e
 idle t (ResetHeld end) e = e
 idle t Established e = refl
+
+-- A slot holds a connection of a name, by which of the two tests is made first: the name, or whether it is live
+module _ (t : ℕ) (b : List ℕ) (port : ℕ) (s : Slot) where
+  pub other-name : sameName (s .port) port (s .addr) b ≡ false → holdsPeer t b port s ≡ false
+  unfolding holdsPeer
+  other-name e = rw e (and-false (isLive t (s .status)))
+
+  pub same-name : sameName (s .port) port (s .addr) b ≡ true → holdsPeer t b port s ≡ isLive t (s .status)
+  unfolding holdsPeer
+  same-name e = rw e (and-true (isLive t (s .status)))
+
+  pub not-live : isLive t (s .status) ≡ false → holdsPeer t b port s ≡ false
+  unfolding holdsPeer
+  not-live e = rw e
+
+  pub live : isLive t (s .status) ≡ true → holdsPeer t b port s ≡ sameName (s .port) port (s .addr) b
+  unfolding holdsPeer
+  live e = rw e

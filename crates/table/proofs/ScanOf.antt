@@ -1,7 +1,7 @@
 -- One scan of the table finds `scanOf`. Assumes nothing.
 use Prim.Native.Nat.{ℕ, suc, _+_, _≤_, _<_}
 use mathlib.Core.Path.{_≡_, refl, sym, _∙_}
-use mathlib.Core.Bool.{Bool, true, false, cond, not, false≢true, and-true, and-false}
+use mathlib.Core.Bool.{Bool, true, false, cond, not, false≢true}
 use mathlib.Core.List.{List, [], _∷_}
 use native.Mathlib.Omega.{arith}
 use native.Mathlib.Numerals.{add-one}
@@ -17,44 +17,34 @@ use Rattle.protocol.specs.Table.{isLive, isPending, isFree, freeSlot, holdsPeer
 use Rattle.table.specs.Scan.{firstPlace, countIf, scanWith, emptyScan, indexInTable, slotFound}
 use Rattle.protocol.specs.declared.slots.Slot.{Slot}
 use Rattle.protocol.specs.declared.slots.Scan.{Scan}
-use Rattle.protocol.proofs.Table.{idle}
+use Rattle.protocol.proofs.Table.{idle, not-live, live}
 
--- One slot, by the order in which its tests are made: the name, then whether it is live
-module _ (t : ℕ) (b : List ℕ) (port : ℕ) (s : Slot) where
-  pub other-name : sameName (s .port) port (s .addr) b ≡ false → holdsPeer t b port s ≡ false
-  unfolding holdsPeer
-  other-name e = rw e (and-false (isLive t (s .status)))
+-- One slot: whether it is live, then its name
+module _ (t : ℕ) (b : List ℕ) (port : ℕ) (s : Slot) (scan : Scan) (i : ℕ) where
+  -- a test that fails leaves the place found before
+  stays : (found : ℕ) → found ≡ firstPlace found i false
+  stays found = go (ltb found 64)
+    where
+      go : (x : Bool) → found ≡ cond x found found
+      go true = refl
+      go false = refl
 
-  pub same-name : sameName (s .port) port (s .addr) b ≡ true → holdsPeer t b port s ≡ isLive t (s .status)
-  unfolding holdsPeer
-  same-name e = rw e (and-true (isLive t (s .status)))
+  pub scan-free : isLive t (s .status) ≡ false
+      → record { place = scan .place; free = firstPlace (scan .free) i true; pending = scan .pending } ≡ scanWith scan i t b port s
+  unfolding scanWith
+  scan-free e = rw (not-live t b port s e, e, idle t (s .status) e, sym (stays (scan .place)))
 
-  -- whether it is live, then the name
-  module _ (scan : Scan) (i : ℕ) where
-    -- a test that fails leaves the place found before
-    stays : (found : ℕ) → found ≡ firstPlace found i false
-    stays found = go (ltb found 64)
-      where
-        go : (x : Bool) → found ≡ cond x found found
-        go true = refl
-        go false = refl
+  -- a live slot is counted first
+  module _ (e : isLive t (s .status) ≡ true) {here : Bool} (eh : here ≡ isPending t (s .status)) {counted : Scan}
+      (ec : counted ≡ record { place = scan .place; free = scan .free; pending = countIf (scan .pending) here }) where
+    pub scan-other : sameName (s .port) port (s .addr) b ≡ false → counted ≡ scanWith scan i t b port s
+    unfolding scanWith
+    scan-other n = ec ∙ rw (live t b port s e, eh, e, n, sym (stays (scan .place)), sym (stays (scan .free)))
 
-    pub scan-free : isLive t (s .status) ≡ false
-        → record { place = scan .place; free = firstPlace (scan .free) i true; pending = scan .pending } ≡ scanWith scan i t b port s
-    unfolding scanWith holdsPeer
-    scan-free e = rw (e, idle t (s .status) e, sym (stays (scan .place)))
-
-    -- a live slot is counted first
-    module _ (live : isLive t (s .status) ≡ true) {here : Bool} (eh : here ≡ isPending t (s .status)) {counted : Scan}
-        (ec : counted ≡ record { place = scan .place; free = scan .free; pending = countIf (scan .pending) here }) where
-      pub scan-other : sameName (s .port) port (s .addr) b ≡ false → counted ≡ scanWith scan i t b port s
-      unfolding scanWith holdsPeer
-      scan-other e = ec ∙ rw (eh, live, e, sym (stays (scan .place)), sym (stays (scan .free)))
-
-      pub scan-peer : sameName (s .port) port (s .addr) b ≡ true
-          → record { place = firstPlace (counted .place) i true; free = counted .free; pending = counted .pending } ≡ scanWith scan i t b port s
-      unfolding scanWith holdsPeer
-      scan-peer e = rw (ec, eh, live, e, sym (stays (scan .free)))
+    pub scan-peer : sameName (s .port) port (s .addr) b ≡ true
+        → record { place = firstPlace (counted .place) i true; free = counted .free; pending = counted .pending } ≡ scanWith scan i t b port s
+    unfolding scanWith
+    scan-peer n = rw (live t b port s e, ec, eh, e, n, sym (stays (scan .free)))
 
 module _ (p : Slot → Bool) where
   -- the first place where the test passes, from place i on, where `found` was found before

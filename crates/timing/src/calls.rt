@@ -4,6 +4,7 @@ use crate::data::wide;
 use listener::calls::abandon;
 use listener::calls::close;
 use listener::calls::segment;
+use listener::calls::set_key;
 use listener::calls::set_settings;
 use listener::calls::start;
 use listener::outcome::accepted_count;
@@ -203,6 +204,14 @@ pub(crate) fn early(peer: &[u8; 4], count: u64, live: u64, payload: u64) -> u64 
         count,
         data::first(&opening, n),
     )
+}
+
+// The early opening where the key has turned since its cookie was given: two blocks are encrypted.
+pub(crate) fn turned(peer: &[u8; 4], count: u64, live: u64, payload: u64) -> u64 {
+    let mut opening = [0u8; 1520];
+    let n = put_early(&mut opening, peer, payload);
+    let o = set_key(listener_with(peer, live), 0, &data::next_key());
+    open_and_abandon(o.listener, peer, count, data::first(&opening, n))
 }
 
 pub(crate) fn request(peer: &[u8; 4], count: u64, live: u64) -> u64 {

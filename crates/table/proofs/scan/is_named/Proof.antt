@@ -2,7 +2,7 @@
 -- Assumes nothing.
 use mathlib.Core.Path.{sym, _∙_}
 use borrow.Author.Tests.{not-true, not-false}
-use Rattle.table.proofs.ScanOf.{other-name, same-name}
+use Rattle.protocol.proofs.Table.{other-name, same-name}
 use borrow.Author.Needs.{needs}
 use Rattle.table.proofs.scan.is_named.Statement.{statement}
 use Rattle.table.proofs.scan.is_named.Tie as tie
