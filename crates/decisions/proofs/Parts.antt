@@ -1,18 +1,36 @@
 -- The rules on the parts of a view are the rules on the view. Assumes nothing.
 use Prim.Native.Nat.{ℕ}
-use mathlib.Core.Path.{_≡_, refl, sym, _∙_}
-use mathlib.Core.Bool.{Bool, true, false, true≢false, false≢true}
+use mathlib.Core.Path.{_≡_, refl}
+use mathlib.Core.Bool.{Bool, true, false, cond, not, _&&_, true≢false, false≢true}
 use mathlib.Core.List.{List}
+use native.Mathlib.Omega.{arith}
 use Rattle.segment.specs.Header.{fieldsOf, kindOf, optionArea}
+use Rattle.segment.specs.Options.{readOptions}
+use Rattle.segment.specs.declared.refusal.Refusal.{Refusal}
+use Rattle.segment.specs.declared.refusal.Check.{Check}
+use Rattle.segment.specs.declared.refusal.Check.the-variants.{Clear, Refused}
+use Rattle.segment.specs.declared.options.FastOpenOption.{FastOpenOption}
+use Rattle.segment.specs.declared.options.FastOpenOption.the-variants.{Absent, Request, Cookie}
 use Rattle.segment.specs.declared.header.Header.{Header}
 use Rattle.segment.specs.declared.header.Kind.{Kind}
 use Rattle.segment.specs.declared.header.Kind.the-variants.{Syn, Rst, Ack, Other}
+use Rattle.protocol.specs.Cookie.{nothing, found, counts, rightUnder, right}
 use Rattle.protocol.specs.Refusals.{kindChecks}
 use Rattle.protocol.specs.Step.{cookiesEnabled, isEarly, isFresh, segmentEvent, slotAfter}
+use Rattle.protocol.specs.declared.state.Keys.{Keys}
 use Rattle.protocol.specs.declared.state.View.{View}
-use Rattle.protocol.proofs.Cookie.{carried-syn}
+use Rattle.protocol.proofs.Cookie.{carried-syn, never-right, no-cookie}
 use Rattle.protocol.proofs.Openings.{early-is, fresh-is}
-use Rattle.decisions.specs.Parts.{isOpening, openingChecks, isEarlyWith, isFreshWith, laterChecks, laterEvent, laterSlot}
+use Rattle.decisions.specs.Parts.{hasKind, isOpening, openingChecks, openingCheck, enabledWith, countedIn, isCounted, isFreshFor, laterChecks, laterEvent, laterSlot}
+use Rattle.decisions.specs.declared.checks.OpeningCheck.the-variants as openings
+
+-- Kinds
+
+pub no-kind : (k : Kind) → hasKind k ≡ false → k ≡ Other
+no-kind Syn e = absurd (true≢false e)
+no-kind Rst e = absurd (true≢false e)
+no-kind Ack e = absurd (true≢false e)
+no-kind Other e = refl
 
 pub opening-kind : (k : Kind) → isOpening k ≡ true → k ≡ Syn
 opening-kind Syn e = refl
@@ -20,17 +38,51 @@ opening-kind Rst e = absurd (false≢true e)
 opening-kind Ack e = absurd (false≢true e)
 opening-kind Other e = absurd (false≢true e)
 
+-- What an opening's checks came to
+
+pub was-refused : (c : Check) (free : Bool) {r : Refusal} → openingCheck c free ≡ openings.Refused r → c ≡ Refused r
+was-refused (Refused q) free e = cc
+was-refused Clear true e = absurd (let z : _≡_ {A = ℕ} 0 1 = cc in omega arith)
+was-refused Clear false e = absurd (let z : _≡_ {A = ℕ} 0 1 = cc in omega arith)
+
+pub was-repeat : (c : Check) (free : Bool) → openingCheck c free ≡ openings.Repeat → (c ≡ Clear) × (free ≡ false)
+was-repeat (Refused q) free e = absurd (let z : _≡_ {A = ℕ} 0 1 = cc in omega arith)
+was-repeat Clear true e = absurd (let z : _≡_ {A = ℕ} 0 1 = cc in omega arith)
+was-repeat Clear false e = (refl, refl)
+
+pub was-new : (c : Check) (free : Bool) → openingCheck c free ≡ openings.New → (c ≡ Clear) × (free ≡ true)
+was-new (Refused q) free e = absurd (let z : _≡_ {A = ℕ} 0 1 = cc in omega arith)
+was-new Clear true e = (refl, refl)
+was-new Clear false e = absurd (let z : _≡_ {A = ℕ} 0 1 = cc in omega arith)
+
+-- A new opening: where cookies are not enabled, or no option counts, it is plain and gets no cookie; else the option decides.
+module _ (keys : Keys) (b area : List ℕ) where
+  plain : (enabled : Bool) (f : FastOpenOption) → isCounted (cond enabled f Absent) ≡ false
+      → (enabled && right keys b (found f area) ≡ false) × (enabled && isFreshFor keys b (found f area) ≡ false)
+  plain false f e = (refl, refl)
+  plain true Absent e = (never-right keys b nothing (λ w. no-cookie w b .0), refl)
+  plain true Request e = absurd (true≢false e)
+  plain true (Cookie at len) e = absurd (true≢false e)
+
+  by-option : (enabled : Bool) (f : FastOpenOption) → isCounted (cond enabled f Absent) ≡ true
+      → (right keys b (found (cond enabled f Absent) area) ≡ enabled && right keys b (found f area))
+      × (isFreshFor keys b (found (cond enabled f Absent) area) ≡ enabled && isFreshFor keys b (found f area))
+  by-option false f e = absurd (false≢true e)
+  by-option true f e = (refl, refl)
+
 module _ (v : View) where
   pub opening-checks : (h : Header) → openingChecks (v .slot) (v .vacant) h ≡ kindChecks v h Syn
   opening-checks h = refl
 
-  -- a new opening, by its option area
-  module _ (b seg : List ℕ) (syn : kindOf (fieldsOf seg .flags) ≡ Syn) where
-    pub early-with : isEarlyWith (cookiesEnabled v) (v .keys) b (optionArea seg) ≡ isEarly v b seg
-    early-with = rw (early-is v b seg, carried-syn seg syn)
+  module _ (b seg : List ℕ) (syn : kindOf (fieldsOf seg .flags) ≡ Syn) {fast : FastOpenOption} (ef : fast ≡ countedIn (cookiesEnabled v) (optionArea seg)) where
+    pub opens-plain : isCounted fast ≡ false → (isEarly v b seg ≡ false) × (isFresh v b seg ≡ false)
+    opens-plain e = rw (early-is v b seg, fresh-is v b seg, carried-syn seg syn) (plain (v .keys) b (optionArea seg) (cookiesEnabled v) (readOptions (optionArea seg) .fast) (rw ef at e))
 
-    pub fresh-with : isFreshWith (cookiesEnabled v) (v .keys) b (optionArea seg) ≡ isFresh v b seg
-    fresh-with = rw (fresh-is v b seg, carried-syn seg syn)
+    pub opens-by-option : isCounted fast ≡ true
+        → (right (v .keys) b (found fast (optionArea seg)) ≡ isEarly v b seg) × (isFreshFor (v .keys) b (found fast (optionArea seg)) ≡ isFresh v b seg)
+    opens-by-option e = rw (ef, early-is v b seg, fresh-is v b seg, carried-syn seg syn) (by-option (v .keys) b (optionArea seg) (cookiesEnabled v) (readOptions (optionArea seg) .fast) (rw ef at e))
+
+  -- Later segments
 
   pub later-checks : (h : Header) (k : Kind) → isOpening k ≡ false → laterChecks (v .slot) h k ≡ kindChecks v h k
   later-checks h Syn e = absurd (true≢false e)

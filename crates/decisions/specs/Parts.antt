@@ -2,15 +2,19 @@
 -- Assumes nothing.
 use Prim.Native.Nat.{ℕ}
 use mathlib.Core.List.{List, [], _∷_}
-use mathlib.Core.Bool.{Bool, true, false, not, _&&_, _||_}
+use mathlib.Core.Bool.{Bool, true, false, cond, not, _&&_, _||_}
 use lib.Dec.{ltb}
 use Rattle.segment.specs.Refusal.{Checks}
 use Rattle.segment.specs.Options.{readOptions}
 use Rattle.segment.specs.declared.refusal.Refusal.the-variants.{Flags, NameInUse, TableFull}
+use Rattle.segment.specs.declared.refusal.Check.{Check}
+use Rattle.segment.specs.declared.refusal.Check.the-variants.{Clear, Refused}
+use Rattle.segment.specs.declared.options.FastOpenOption.{FastOpenOption}
+use Rattle.segment.specs.declared.options.FastOpenOption.the-variants.{Absent, Request, Cookie}
 use Rattle.segment.specs.declared.header.Header.{Header}
 use Rattle.segment.specs.declared.header.Kind.{Kind}
 use Rattle.segment.specs.declared.header.Kind.the-variants.{Syn, Rst, Ack, Other}
-use Rattle.protocol.specs.Cookie.{Carried, found, counts, rightUnder, right}
+use Rattle.protocol.specs.Cookie.{Carried, counts, rightUnder}
 use Rattle.protocol.specs.Table.{isFree, afterReset, withStatus}
 use Rattle.protocol.specs.Refusals.{repeats, completes, resets, sequenceChecks}
 use Rattle.protocol.specs.declared.state.Keys.{Keys}
@@ -19,8 +23,15 @@ use Rattle.protocol.specs.declared.slots.Status.the-variants.{Established}
 use Rattle.protocol.specs.declared.slots.Slot.{Slot}
 use Rattle.protocol.specs.declared.outcome.Event.{Event}
 use Rattle.protocol.specs.declared.outcome.Event.the-variants as events
+use Rattle.decisions.specs.declared.checks.OpeningCheck.{OpeningCheck}
+use Rattle.decisions.specs.declared.checks.OpeningCheck.the-variants as openings
 
--- Openings
+-- not 6
+abbrev pub hasKind : Kind → Bool
+hasKind Syn = true
+hasKind Rst = true
+hasKind Ack = true
+hasKind Other = false
 
 abbrev pub isOpening : Kind → Bool
 isOpening Syn = true
@@ -28,30 +39,40 @@ isOpening Rst = false
 isOpening Ack = false
 isOpening Other = false
 
+-- Openings
+
 -- 7 and 8, from the peer's slot and whether any slot is free
 abbrev pub openingChecks : Slot → Bool → Header → Checks
 openingChecks s vacant h =
     (NameInUse, not (isFree (s .status)) && not (repeats s h))
     ∷ (TableFull, not (not (isFree (s .status)) || vacant)) ∷ []
 
+-- what they come to, where the slot is free or not: refused, new, or a repeat
+abbrev pub openingCheck : Check → Bool → OpeningCheck
+openingCheck (Refused r) free = openings.Refused r
+openingCheck Clear true = openings.New
+openingCheck Clear false = openings.Repeat
+
 -- cookies are taken and given, with so many pending
 abbrev pub enabledWith : StoredSettings → ℕ → Bool
 enabledWith g pending = g .on && ltb pending (g .limit)
 
--- the counted Fast Open option in an opening's option area
-abbrev pub carriedIn : List ℕ → Carried
-carriedIn area = found (readOptions area .fast) area
+-- the option by which a new opening is answered, from its option area: none where cookies are not enabled
+abbrev pub countedIn : Bool → List ℕ → FastOpenOption
+countedIn enabled area = cond enabled (readOptions area .fast) Absent
 
--- whether a new opening is early, and whether its SYN-ACK has a fresh cookie: from whether cookies are enabled, the keys, the address's block and the option area
-abbrev pub isEarlyWith : Bool → Keys → List ℕ → List ℕ → Bool
-isEarlyWith enabled keys b area = enabled && right keys b (carriedIn area)
+abbrev pub isCounted : FastOpenOption → Bool
+isCounted Absent = false
+isCounted Request = true
+isCounted (Cookie at len) = true
 
-abbrev pub isFreshWith : Bool → Keys → List ℕ → List ℕ → Bool
-isFreshWith enabled keys b area = enabled && (counts (carriedIn area) && not (rightUnder (keys .present) b (carriedIn area)))
+-- a fresh cookie goes with the SYN-ACK to an option
+abbrev pub isFreshFor : Keys → List ℕ → Carried → Bool
+isFreshFor keys b o = counts o && not (rightUnder (keys .present) b o)
 
--- Later segments: a completion, a reset, or flags of no kind. None is an opening, so what stands at `Syn` is never used.
+-- Later segments: a completion or a reset. What stands at the other two kinds is never used.
 
--- 6, 9 and 10, from the peer's slot
+-- 9 and 10, from the peer's slot
 abbrev pub laterChecks : Slot → Header → Kind → Checks
 laterChecks s h Ack = sequenceChecks s (completes s h)
 laterChecks s h Rst = sequenceChecks s (resets s h)

@@ -7,18 +7,19 @@ use protocol::state::Keys;
 use protocol::state::StoredSettings;
 use segment::header::Header;
 use segment::header::Kind;
+use segment::options::FastOpenOption;
 use segment::options::read_options;
 use table::slot::after_reset;
 use table::slot::new_slot;
 use table::slot::with_status;
 ghost use mathlib.Core.Path.{_≡_};
 ghost use mathlib.Core.Bool.{true};
-ghost use Prim.Native.Nat.{ℕ, min};
+ghost use Prim.Native.Nat.{min};
 ghost use lib.ListN.{length};
-ghost use Rattle.protocol.specs.Cookie.{cookieUnder};
-ghost use Rattle.protocol.specs.Step.{newEvent, slotAfter};
-ghost use Rattle.protocol.specs.declared.state.View.{View};
-ghost use Rattle.decisions.specs.Parts.{isOpening, enabledWith, isEarlyWith, isFreshWith, laterEvent, laterSlot};
+ghost use Rattle.protocol.specs.Cookie.{cookieUnder, found, right};
+ghost use Rattle.protocol.specs.Table.{newSlot};
+ghost use Rattle.protocol.specs.Step.{newEvent, newStatus};
+ghost use Rattle.decisions.specs.Parts.{isOpening, enabledWith, countedIn, isCounted, isFreshFor, laterEvent, laterSlot};
 
 // Whether a segment asks for a connection.
 pub fn is_opening(kind: Kind) -> bool
@@ -59,25 +60,52 @@ pub fn cookies_enabled(g: StoredSettings, pending: u32) -> bool
     if g.on { below } else { false }
 }
 
-// A new connection. The keys are read only where cookies are enabled and an option counts.
-pub fn open_new(
-    enabled: bool,
+// The Fast Open option by which a new opening is answered: none where cookies are not enabled.
+pub fn counted_option(enabled: bool, area: &[u8]) -> FastOpenOption
+    ensures { λ r. ⌜ r ≡ countedIn enabled (now (area .entry)) ⌝ }
+{
+    if !enabled {
+        return FastOpenOption::Absent;
+    }
+    let options = read_options(area);
+    options.fast
+}
+
+// Whether there is one.
+pub fn counts(fast: FastOpenOption) -> bool
+    ensures { λ r. ⌜ r ≡ isCounted fast ⌝ }
+{
+    match fast {
+        FastOpenOption::Absent => false,
+        FastOpenOption::Request => true,
+        FastOpenOption::Cookie { at: _, len: _ } => true,
+    }
+}
+
+// A new connection's slot, where no option counts.
+pub fn open_plain(b: [u8; 16], h: Header, iss: u32) -> Slot
+    ensures { λ r. ⌜ r ≡ newSlot b (h .source) (h .seq) iss Status.SynReceived ⌝ }
+{
+    new_slot(b, h.source, h.seq, iss, Status::SynReceived)
+}
+
+// A new connection, by its option: a cookie that is right makes it early.
+pub fn open_by_option(
     g: StoredSettings,
     keys: Keys,
     b: [u8; 16],
     h: Header,
     iss: u32,
     area: &[u8],
+    fast: FastOpenOption,
     payload: &[u8],
 ) -> Opened
-    ensures { λ r. ⌜ r .event ≡ newEvent (isEarlyWith enabled keys b (now (area .entry))) (min (length (now (payload .entry))) (g .«early_room»)) ⌝ }
-    ensures { λ r. ⌜ ((v : View) (end : ℕ) → r .slot ≡ slotAfter v end b h iss (r .event)) ⌝ }
-    ensures { λ r. ⌜ r .fresh ≡ isFreshWith enabled keys b (now (area .entry)) ⌝ }
+    ensures { λ r. ⌜ r .event ≡ newEvent (right keys b (found fast (now (area .entry)))) (min (length (now (payload .entry))) (g .«early_room»)) ⌝ }
+    ensures { λ r. ⌜ r .slot ≡ newSlot b (h .source) (h .seq) iss (newStatus (right keys b (found fast (now (area .entry)))) (min (length (now (payload .entry))) (g .«early_room»))) ⌝ }
+    ensures { λ r. ⌜ r .fresh ≡ isFreshFor keys b (found fast (now (area .entry))) ⌝ }
     ensures { λ r. ⌜ (r .fresh ≡ true → r .cookie ≡ cookieUnder (keys .present) b) ⌝ }
 {
-    let options = read_options(area);
-    let fast = options.fast;
-    let option = check_option(enabled, keys, b, area, fast);
+    let option = check_option(true, keys, b, area, fast);
     let cookie = option.cookie;
     if option.right {
         let n = accept(payload, g.early_room);
@@ -90,7 +118,7 @@ pub fn open_new(
     }
     Opened {
         event: Event::Regular,
-        slot: new_slot(b, h.source, h.seq, iss, Status::SynReceived),
+        slot: open_plain(b, h, iss),
         fresh: option.fresh,
         cookie,
     }

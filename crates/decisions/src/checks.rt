@@ -29,9 +29,10 @@ ghost use mathlib.Core.List.{_++_};
 ghost use Rattle.segment.specs.Refusal.{refusal};
 ghost use Rattle.segment.specs.Header.{fieldsOf};
 ghost use Rattle.endpoint.specs.Checks.{isUntimely, timely, addressed};
+ghost use Rattle.protocol.specs.Table.{isFree};
 ghost use Rattle.protocol.specs.Refusals.{inRange, isReleasable, repeats, completes, resets, expected, outputChecks, sequenceChecks, wireChecks};
 ghost use Rattle.decisions.specs.Received.{received};
-ghost use Rattle.decisions.specs.Parts.{openingChecks, laterChecks};
+ghost use Rattle.decisions.specs.Parts.{openingCheck, openingChecks, hasKind, laterChecks};
 
 // 13, 5, 2 and 11: the longest SYN-ACK has 36 bytes.
 pub fn check_output(
@@ -129,21 +130,28 @@ fn admits_reset(s: Slot, h: Header) -> bool
     h.seq == expected_of(s)
 }
 
+// An opening is refused, repeats the one that the slot was made for, or is new.
+pub enum OpeningCheck {
+    Refused(Refusal),
+    Repeat,
+    New,
+}
+
 // 7 and 8, from the peer's slot and whether any slot is free.
-pub fn check_opening(slot: Slot, vacant: bool, h: Header) -> Check
-    ensures { λ r. ⌜ r ≡ refusal (openingChecks slot vacant h) ⌝ }
+pub fn check_opening(slot: Slot, vacant: bool, h: Header) -> OpeningCheck
+    ensures { λ r. ⌜ r ≡ openingCheck (refusal (openingChecks slot vacant h)) (isFree (slot .status)) ⌝ }
 {
     let status = slot.status;
     if is_free(status) {
         if vacant {
-            return Check::Clear;
+            return OpeningCheck::New;
         }
-        return Check::Refused(Refusal::TableFull);
+        return OpeningCheck::Refused(Refusal::TableFull);
     }
     if is_repeat(slot, h) {
-        return Check::Clear;
+        return OpeningCheck::Repeat;
     }
-    Check::Refused(Refusal::NameInUse)
+    OpeningCheck::Refused(Refusal::NameInUse)
 }
 
 // 9 and 10, where `admitted` is whether the numbers are.
@@ -160,7 +168,19 @@ fn check_sequence(s: Slot, admitted: bool) -> Check
     Check::Clear
 }
 
-// 6, 9 and 10, of a segment that is no opening.
+// Not 6: the flags are those of an opening, a completion or a reset.
+pub fn has_kind(kind: Kind) -> bool
+    ensures { λ r. ⌜ r ≡ hasKind kind ⌝ }
+{
+    match kind {
+        Kind::Syn => true,
+        Kind::Rst => true,
+        Kind::Ack => true,
+        Kind::Other => false,
+    }
+}
+
+// 9 and 10, of a completion or a reset.
 pub fn check_later(slot: Slot, h: Header, kind: Kind) -> Check
     ensures { λ r. ⌜ r ≡ refusal (laterChecks slot h kind) ⌝ }
 {

@@ -11,7 +11,10 @@ use Rattle.segment.specs.Refusal.{refusal}
 use Rattle.segment.specs.Header.{malformed, fieldsOf, kindOf, optionArea, payloadOf}
 use Rattle.segment.specs.Write.{synAckBytes}
 use Rattle.segment.specs.declared.refusal.Refusal.{Refusal}
+use Rattle.segment.specs.declared.refusal.Refusal.the-variants.{Flags}
+use Rattle.segment.specs.declared.refusal.Check.{Check}
 use Rattle.segment.specs.declared.refusal.Check.the-variants.{Clear, Refused}
+use Rattle.segment.specs.declared.options.FastOpenOption.{FastOpenOption}
 use Rattle.segment.specs.declared.header.Header.{Header}
 use Rattle.segment.specs.declared.header.Kind.{Kind}
 use Rattle.segment.specs.declared.header.Kind.the-variants.{Syn, Rst, Ack, Other}
@@ -19,30 +22,38 @@ use Rattle.segment.proofs.Malformed.{area-is, payload-is, offset-is}
 use Rattle.endpoint.specs.Address.{block}
 use Rattle.endpoint.specs.Checks.{isUntimely}
 use Rattle.endpoint.proofs.Clear.{every-check}
-use Rattle.protocol.specs.Table.{isFree, isWaiting, freeSlot, scanOf}
+use Rattle.protocol.specs.Cookie.{cookieUnder, found, right}
+use Rattle.protocol.specs.Table.{isFree, isWaiting, freeSlot, newSlot, scanOf}
 use Rattle.protocol.specs.Call.{Call, segment, sender}
 use Rattle.protocol.specs.View.{ownAddress, slotAt, scanFor, view}
 use Rattle.protocol.specs.Refusals.{kindChecks, wireChecks}
-use Rattle.protocol.specs.Step.{cookiesEnabled, isEarly, isFresh, accepts, newEvent, segmentEvent, heldUntil, slotAfter, freshWith, synAckFrom, writesSynAck, segmentAfter, moved, put, step, outputOf}
+use Rattle.protocol.specs.Step.{cookiesEnabled, isEarly, isFresh, accepts, newEvent, newStatus, segmentEvent, heldUntil, slotAfter, freshWith, synAckFrom, writesSynAck, segmentAfter, moved, put, step, outputOf}
 use Rattle.protocol.specs.declared.state.View.{View}
 use Rattle.protocol.specs.declared.state.Listener.{Listener}
 use Rattle.protocol.specs.declared.outcome.Event.{Event}
 use Rattle.protocol.specs.declared.outcome.Event.the-variants as events
+use Rattle.protocol.specs.declared.slots.Status.the-variants.{SynReceived}
 use Rattle.protocol.specs.declared.slots.Slot.{Slot}
 use Rattle.protocol.specs.declared.slots.Scan.{Scan}
 use Rattle.protocol.proofs.Table.{not-free}
 use Rattle.protocol.proofs.Step.{refusedWith, segment-refused, segment-writes-none, segment-writes, wired-formed}
 use Rattle.table.proofs.ScanOf.{in-table}
-use Rattle.decisions.specs.Parts.{isOpening, openingChecks, enabledWith, isEarlyWith, isFreshWith, laterChecks, laterEvent, laterSlot}
+use Rattle.decisions.specs.Parts.{hasKind, isOpening, openingChecks, openingCheck, enabledWith, countedIn, isCounted, laterChecks, laterEvent, laterSlot}
 use Rattle.decisions.specs.declared.action.Opened.{Opened}
-use Rattle.decisions.proofs.Parts.{opening-kind, early-with, fresh-with, later-checks, later-event, later-slot}
+use Rattle.decisions.specs.declared.checks.OpeningCheck.{OpeningCheck}
+use Rattle.decisions.specs.declared.checks.OpeningCheck.the-variants as openings
+use Rattle.decisions.proofs.Parts.{no-kind, opening-kind, was-refused, was-repeat, was-new, opening-checks, opens-plain, opens-by-option, later-checks, later-event, later-slot}
 use Rattle.decisions.proofs.Opened.{Opens}
 
 -- A new connection, early or plain
-module _ (l : Listener) (t : ℕ) (scan : Scan) (v : View) (b seg : List ℕ) (s : Slot) where
+module _ (l : Listener) (t : ℕ) (scan : Scan) (v : View) (end : ℕ) (b : List ℕ) (h : Header) (iss : ℕ) (seg : List ℕ) (s : Slot) where
   new-place : (early : Bool) (n : ℕ) → put l t (scan .free) s ≡ segmentAfter l t scan (newEvent early n) s
   new-place true n = refl
   new-place false n = refl
+
+  new-slot : (early : Bool) (n : ℕ) → newSlot b (h .source) (h .seq) iss (newStatus early n) ≡ slotAfter v end b h iss (newEvent early n)
+  new-slot true n = refl
+  new-slot false n = refl
 
   new-fresh : (early : Bool) (n : ℕ) → isFresh v b seg ≡ freshWith v b seg (newEvent early n)
   new-fresh true n = refl
@@ -63,6 +74,12 @@ module _ (l : Listener) (t : ℕ) (src seg : List ℕ) (iss out-len : ℕ) (firs
   abbrev k : Kind
   k = kindOf (fieldsOf seg .flags)
 
+  -- Flags of no kind
+  pub kind-refused : {x : Kind} → x ≡ kindOf (h .flags) → hasKind x ≡ false → (step l this ≡ refusedWith l Flags) × (outputOf l this ≡ [])
+  kind-refused {x} ek none =
+      let other : k ≡ Other = sym (rw eh at ek) ∙ no-kind x none in
+      segment-refused l t src seg iss out-len first (rw other refl)
+
   -- An opening, with what a scan of the table found and the peer's slot
   module _ {x : Kind} (ek : x ≡ kindOf (h .flags)) (opening : isOpening x ≡ true) {scan : Scan} {s : Slot} (ef : scan ≡ scanOf t b (h .source) (l .slots)) (es : s ≡ slotAt l (scan .place)) where
     kind-is : k ≡ Syn
@@ -74,73 +91,81 @@ module _ (l : Listener) (t : ℕ) (src seg : List ℕ) (iss out-len : ℕ) (firs
     slot-is : s ≡ v .slot
     slot-is = rw scan-is at es
 
-    checks-are : refusal (openingChecks s (ltb (scan .free) 64) h) ≡ refusal (kindChecks v (fieldsOf seg) k)
-    checks-are = rw (kind-is, slot-is, scan-is, eh) refl
+    abbrev found-checks : Check
+    found-checks = refusal (openingChecks s (ltb (scan .free) 64) h)
 
-    pub opening-refused : {r : Refusal} → refusal (openingChecks s (ltb (scan .free) 64) h) ≡ Refused r → (step l this ≡ refusedWith l r) × (outputOf l this ≡ [])
-    opening-refused q = segment-refused l t src seg iss out-len first (sym checks-are ∙ q)
+    checks-are : found-checks ≡ refusal (kindChecks v (fieldsOf seg) k)
+    checks-are = rw (kind-is, slot-is, scan-is, eh) (ap refusal (opening-checks v (fieldsOf seg)))
 
-    module _ (clear : refusal (openingChecks s (ltb (scan .free) 64) h) ≡ Clear) where
-      second : refusal (kindChecks v (fieldsOf seg) k) ≡ Clear
-      second = sym checks-are ∙ clear
+    abbrev synAck : Slot → Bool → List ℕ → List ℕ
+    synAck x fresh cookie = synAckBytes (ownAddress (l .local)) src (synAckFrom (l .local) (l .settings .mss) x fresh) cookie out-len
 
-      abbrev synAck : Slot → Bool → List ℕ → List ℕ
-      synAck x fresh cookie = synAckBytes (ownAddress (l .local)) src (synAckFrom (l .local) (l .settings .mss) x fresh) cookie out-len
+    module _ {c : OpeningCheck} (ec : c ≡ openingCheck found-checks (isFree (s .status))) where
+      pub opening-refused : {r : Refusal} → c ≡ openings.Refused r → (step l this ≡ refusedWith l r) × (outputOf l this ≡ [])
+      opening-refused q = segment-refused l t src seg iss out-len first (sym checks-are ∙ was-refused found-checks (isFree (s .status)) (sym ec ∙ q))
 
       -- a repeat changes nothing but the clock
-      pub repeated : isFree (s .status) ≡ false → (cookie : List ℕ)
+      pub repeated : c ≡ openings.Repeat → (cookie : List ℕ)
           → (record { listener = moved l t (l .slots); event = events.Retransmission; written = length (synAck s false cookie) } ≡ step l this) × (outputOf l this ≡ synAck s false cookie)
-      repeated f cookie =
-          let known = rw slot-is at f in
-          segment-writes l t src seg iss out-len first second {e = events.Retransmission} {s = s} (rw (kind-is, known)) (rw (kind-is, known) slot-is)
+      repeated q cookie =
+          let was = was-repeat found-checks (isFree (s .status)) (sym ec ∙ q) in
+          let known = rw slot-is at (was .1) in
+          segment-writes l t src seg iss out-len first (sym checks-are ∙ was .0) {e = events.Retransmission} {s = s} (rw (kind-is, known)) (rw (kind-is, known) slot-is)
           (rw (slot-is, set-same (l .slots) (scanFor l t (sender src seg) .place) freeSlot)) {fresh = false} {cookie = cookie} (rw (kind-is, known)) (λ y. absurd (false≢true y)) refl
 
-      module _ (new : isFree (s .status) ≡ true) where
+      module _ (q : c ≡ openings.New) where
+        was : (found-checks ≡ Clear) × (isFree (s .status) ≡ true)
+        was = was-new found-checks (isFree (s .status)) (sym ec ∙ q)
+
         unknown : isFree (v .slot .status) ≡ true
-        unknown = rw slot-is at new
+        unknown = rw slot-is at (was .1)
 
         pub free-in-table : scan .free < 64
         free-in-table =
-            let some : not (isFree (s .status)) || ltb (scan .free) 64 ≡ true = not-false _ (every-check (openingChecks s (ltb (scan .free) 64) h) clear .1 .0) in
-            ltb-true (scan .free) 64 (rw new at some)
+            let some : not (isFree (s .status)) || ltb (scan .free) 64 ≡ true = not-false _ (every-check (openingChecks s (ltb (scan .free) 64) h) (was .0) .1 .0) in
+            ltb-true (scan .free) 64 (rw (was .1) at some)
 
-        module _ {enabled : Bool} {area payload : List ℕ} (ee : enabled ≡ enabledWith (l .settings) (scan .pending)) (ea : area ≡ take (4 * h .offset - 20) (drop 20 seg))
-            (ep : payload ≡ drop (4 * h .offset) seg) (r : Opened) (opens : Opens enabled (l .keys) b h iss area (min (length payload) (l .settings .«early_room»)) r) where
-          enabled-is : enabled ≡ cookiesEnabled v
-          enabled-is = rw scan-is at ee
-
+        module _ {enabled : Bool} {area : List ℕ} {fast : FastOpenOption} (ee : enabled ≡ enabledWith (l .settings) (scan .pending))
+            (ea : area ≡ take (4 * h .offset - 20) (drop 20 seg)) (eo : fast ≡ countedIn enabled area) where
           formed : malformed seg ≡ false
           formed = wired-formed (l .local) (isUntimely (l .clock) t) src seg out-len first
+
+          enabled-is : enabled ≡ cookiesEnabled v
+          enabled-is = rw scan-is at ee
 
           area-as : area ≡ optionArea seg
           area-as = rw (eh, offset-is seg) at ea ∙ area-is seg formed
 
-          payload-as : payload ≡ payloadOf seg
-          payload-as = rw (eh, offset-is seg) at ep ∙ payload-is seg formed
+          fast-as : fast ≡ countedIn (cookiesEnabled v) (optionArea seg)
+          fast-as = rw (enabled-is, area-as) at eo
 
-          early-as : isEarlyWith enabled (l .keys) b area ≡ isEarly v (block src) seg
-          early-as = rw (enabled-is, area-as, eb) (early-with v (block src) seg kind-is)
+          -- a new connection, early or not, with its slot and whether a fresh cookie goes with its SYN-ACK
+          written-new : {early fresh : Bool} {n : ℕ} {e : Event} {new : Slot} {cookie : List ℕ} → early ≡ isEarly v (block src) seg → fresh ≡ isFresh v (block src) seg → n ≡ accepts (l .settings) seg
+              → e ≡ newEvent early n → new ≡ newSlot b (h .source) (h .seq) iss (newStatus early n) → (fresh ≡ true → cookie ≡ cookieUnder (l .keys .present) b)
+              → (record { listener = put l t (scan .free) new; event = e; written = length (synAck new fresh cookie) } ≡ step l this) × (outputOf l this ≡ synAck new fresh cookie)
+          written-new {early} {fresh} {n} {e} {new} {cookie} early-is fresh-is n-is e-is new-is cookie-is =
+              let event-is : e ≡ segmentEvent v (block src) seg k = e-is ∙ rw (kind-is, unknown, early-is, n-is) in
+              segment-writes l t src seg iss out-len first (sym checks-are ∙ was .0) {e = e} {s = new} event-is
+              (rw (sym event-is, e-is) (new-is ∙ rw (eb, eh) (new-slot l t scan v (heldUntil v t) (block src) (fieldsOf seg) iss seg new early n)))
+              (rw (e-is, scan-is) (new-place l t (scanFor l t (sender src seg)) v 0 b h iss seg new early n)) {fresh = fresh} {cookie = cookie}
+              (fresh-is ∙ rw (sym event-is, e-is) (new-fresh l t scan v 0 (block src) h iss seg new early n))
+              (rw eb at cookie-is)
+              (rw e-is (new-writes l t scan v 0 b h iss seg new early n))
 
-          fresh-as : isFreshWith enabled (l .keys) b area ≡ isFresh v (block src) seg
-          fresh-as = rw (enabled-is, area-as, eb) (fresh-with v (block src) seg kind-is)
+          pub opened-plain : isCounted fast ≡ false → {new : Slot} → new ≡ newSlot b (h .source) (h .seq) iss SynReceived → (cookie : List ℕ)
+              → (record { listener = put l t (scan .free) new; event = events.Regular; written = length (synAck new false cookie) } ≡ step l this) × (outputOf l this ≡ synAck new false cookie)
+          opened-plain none e cookie =
+              let p = opens-plain v (block src) seg kind-is fast-as none in
+              written-new {early = false} {fresh = false} (sym (p .0)) (sym (p .1)) refl refl e (λ y. absurd (false≢true y))
 
-          event-as : r .event ≡ newEvent (isEarly v (block src) seg) (accepts (l .settings) seg)
-          event-as = rw (early-as, payload-as) at (opens .0)
-
-          event-is : r .event ≡ segmentEvent v (block src) seg k
-          event-is = rw (kind-is, unknown) event-as
-
-          pub opened : (record { listener = put l t (scan .free) (r .slot); event = r .event; written = length (synAck (r .slot) (r .fresh) (r .cookie)) } ≡ step l this)
+          pub opened-by-option : isCounted fast ≡ true → {payload : List ℕ} → payload ≡ drop (4 * h .offset) seg → (r : Opened)
+              → Opens (l .keys) b h iss (found fast area) (min (length payload) (l .settings .«early_room»)) r
+              → (record { listener = put l t (scan .free) (r .slot); event = r .event; written = length (synAck (r .slot) (r .fresh) (r .cookie)) } ≡ step l this)
               × (outputOf l this ≡ synAck (r .slot) (r .fresh) (r .cookie))
-          opened =
-              let e = isEarly v (block src) seg in
-              let n = accepts (l .settings) seg in
-              segment-writes l t src seg iss out-len first second {e = r .event} {s = r .slot} event-is
-              (rw (eb, eh, event-is) at (opens .1 .0 v (heldUntil v t)))
-              (rw event-as (rw scan-is (new-place l t (scanFor l t (sender src seg)) v (block src) seg (r .slot) e n)))
-              (opens .1 .1 .0 ∙ fresh-as ∙ (rw (sym event-is, event-as) (new-fresh l t scan v (block src) seg (r .slot) e n)))
-              (rw eb at (opens .1 .1 .1))
-              (rw event-as (new-writes l t scan v (block src) seg (r .slot) e n))
+          opened-by-option some {payload} ep r opens =
+              let p = opens-by-option v (block src) seg kind-is fast-as some in
+              let payload-as : payload ≡ payloadOf seg = rw (eh, offset-is seg) at ep ∙ payload-is seg formed in
+              written-new {early = right (l .keys) b (found fast area)} {n = min (length payload) (l .settings .«early_room»)} (rw (area-as, eb) (p .0)) (opens .1 .1 .0 ∙ rw (area-as, eb) (p .1)) (rw payload-as) (opens .0) (opens .1 .0) (opens .1 .1 .1)
 
   -- A later segment, with the place of its name and the slot there
   module _ {x : Kind} (ek : x ≡ kindOf (h .flags)) (later : isOpening x ≡ false) {i : ℕ} {s : Slot} (ei : i ≡ scanOf t b (h .source) (l .slots) .place) (es : s ≡ slotAt l i) where

@@ -5,14 +5,19 @@
 // next listener, which it makes only after its first checks; and each of its ends is a `return`.
 use cipher::expand_key;
 use decisions::action::cookies_enabled;
+use decisions::action::counted_option;
+use decisions::action::counts;
 use decisions::action::is_opening;
 use decisions::action::later_event;
 use decisions::action::later_slot;
-use decisions::action::open_new;
+use decisions::action::open_by_option;
+use decisions::action::open_plain;
+use decisions::checks::OpeningCheck;
 use decisions::checks::Received;
 use decisions::checks::check_later;
 use decisions::checks::check_opening;
 use decisions::checks::check_output;
+use decisions::checks::has_kind;
 use decisions::checks::is_in_range;
 use decisions::checks::is_releasable;
 use decisions::checks::receive;
@@ -46,7 +51,6 @@ use table::scan::is_named;
 use table::scan::scan_slot;
 use table::scan::slot_found;
 use table::slot::free_slot;
-use table::slot::is_free;
 use table::slot::is_pending;
 use table::slot::is_waiting;
 use table::slot::with_status;
@@ -187,10 +191,13 @@ pub fn segment(l: Listener, time: u64, src: &[u8], seg: &[u8], iss: u32, out: &m
             return refused(l, why);
         }
         Received::Read(h) => {
+            let kind = kind_of(h.flags);
+            if !has_kind(kind) {
+                return refused(l, Refusal::Flags);
+            }
             let mut next = l;
             let settings = next.settings;
             let b = block_of(src);
-            let kind = kind_of(h.flags);
             if is_opening(kind) {
                 let mut scan = empty_scan();
                 for i in 0..SLOTS {
@@ -202,40 +209,54 @@ pub fn segment(l: Listener, time: u64, src: &[u8], seg: &[u8], iss: u32, out: &m
                 let s = next.slots[at];
                 let slot = slot_found(scan.place, s);
                 match check_opening(slot, scan.free < SLOTS, h) {
-                    Check::Refused(why) => {
+                    OpeningCheck::Refused(why) => {
                         return refused(next, why);
                     }
-                    Check::Clear => {
-                        let status = slot.status;
-                        if !is_free(status) {
+                    OpeningCheck::Repeat => {
+                        let cookie = [0u8; 8];
+                        let written = write_from(
+                            out,
+                            local,
+                            settings.mss,
+                            src,
+                            slot,
+                            false,
+                            cookie,
+                        );
+                        next.clock = time;
+                        return Outcome {
+                            listener: next,
+                            event: Event::Retransmission,
+                            written,
+                        };
+                    }
+                    OpeningCheck::New => {
+                        let i = scan.free;
+                        let area = area_within(seg, h.offset);
+                        let fast = counted_option(cookies_enabled(settings, scan.pending), area);
+                        if !counts(fast) {
+                            let new = open_plain(b, h, iss);
                             let cookie = [0u8; 8];
                             let written = write_from(
                                 out,
                                 local,
                                 settings.mss,
                                 src,
-                                slot,
+                                new,
                                 false,
                                 cookie,
                             );
+                            next.slots[i] = new;
                             next.clock = time;
                             return Outcome {
                                 listener: next,
-                                event: Event::Retransmission,
+                                event: Event::Regular,
                                 written,
                             };
                         }
                         let keys = next.keys;
-                        let opened = open_new(
-                            cookies_enabled(settings, scan.pending),
-                            settings,
-                            keys,
-                            b,
-                            h,
-                            iss,
-                            area_within(seg, h.offset),
-                            payload_after(seg, h.offset),
-                        );
+                        let payload = payload_after(seg, h.offset);
+                        let opened = open_by_option(settings, keys, b, h, iss, area, fast, payload);
                         let event = opened.event;
                         let new = opened.slot;
                         let cookie = opened.cookie;
@@ -248,7 +269,6 @@ pub fn segment(l: Listener, time: u64, src: &[u8], seg: &[u8], iss: u32, out: &m
                             opened.fresh,
                             cookie,
                         );
-                        let i = scan.free;
                         next.slots[i] = new;
                         next.clock = time;
                         return Outcome {

@@ -23,9 +23,8 @@ use Rattle.protocol.specs.Table.{isLive, isPending, isFree, freeSlot, ne
 use Rattle.protocol.specs.Call.{segment, sender}
 use Rattle.protocol.specs.View.{known, view}
 use Rattle.protocol.specs.Refusals.{wireChecks, callCheck}
-use Rattle.protocol.specs.Step.{cookiesEnabled, accepts, isEarly, isFresh, newEvent, synAckTo, put, after, step}
+use Rattle.protocol.specs.Step.{cookiesEnabled, accepts, isEarly, isFresh, newEvent, newStatus, synAckTo, put, after, step}
 use Rattle.protocol.specs.declared.slots.Status.{Status}
-use Rattle.protocol.specs.declared.slots.Status.the-variants.{SynReceived, SynReceivedEarly}
 use Rattle.protocol.specs.declared.slots.Slot.{Slot}
 use Rattle.protocol.specs.declared.state.View.{View}
 use Rattle.protocol.specs.declared.state.Listener.{Listener}
@@ -78,10 +77,6 @@ pending-put t slots s h =
 -- A new opening
 
 -- the slot of its connection, early or plain
-abbrev newStatus : Bool → ℕ → Status
-newStatus true n = SynReceivedEarly n
-newStatus false n = SynReceived
-
 abbrev pub slotFor : Bool → List ℕ → List ℕ → ℕ → ℕ → Slot
 slotFor early src seg iss n = newSlot (block src) (sender src seg .port) (fieldsOf seg .seq) iss (newStatus early n)
 

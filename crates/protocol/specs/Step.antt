@@ -22,6 +22,7 @@ use Rattle.protocol.specs.Table.{slotCount, acceptedWith, afterReset, fr
 use Rattle.protocol.specs.Call.{freshMss, Call, segment, settings, key, abandon, resend, close, sender}
 use Rattle.protocol.specs.View.{known, ownAddress, scanFor, view, viewOf}
 use Rattle.protocol.specs.Refusals.{isKey, callCheck}
+use Rattle.protocol.specs.declared.slots.Status.{Status}
 use Rattle.protocol.specs.declared.slots.Status.the-variants.{Free, SynReceived, SynReceivedEarly, Established}
 use Rattle.protocol.specs.declared.slots.Slot.{Slot}
 use Rattle.protocol.specs.declared.slots.Scan.{Scan}
@@ -89,6 +90,11 @@ accepts g seg = min (length (payloadOf seg)) (g .«early_room»)
 abbrev pub newEvent : Bool → ℕ → Event
 newEvent true n = events.FastOpened n
 newEvent false n = events.Regular
+
+-- for the laws and the code: the status of its slot
+abbrev pub newStatus : Bool → ℕ → Status
+newStatus true n = SynReceivedEarly n
+newStatus false n = SynReceived
 
 abbrev pub openingEvent : Bool → View → List ℕ → List ℕ → Event
 openingEvent true v b seg = events.Retransmission
