@@ -1,7 +1,7 @@
 -- The rules on the parts of a view are the rules on the view. Assumes nothing.
 use Prim.Native.Nat.{ℕ}
 use mathlib.Core.Path.{_≡_, refl}
-use mathlib.Core.Bool.{Bool, true, false, cond, not, _&&_, true≢false, false≢true}
+use mathlib.Core.Bool.{Bool, true, false, cond, _&&_, true≢false, false≢true}
 use mathlib.Core.List.{List}
 use native.Mathlib.Omega.{arith}
 use Rattle.segment.specs.Header.{fieldsOf, kindOf, optionArea}
@@ -14,14 +14,14 @@ use Rattle.segment.specs.declared.options.FastOpenOption.the-variants.{Absent, 
 use Rattle.segment.specs.declared.header.Header.{Header}
 use Rattle.segment.specs.declared.header.Kind.{Kind}
 use Rattle.segment.specs.declared.header.Kind.the-variants.{Syn, Rst, Ack, Other}
-use Rattle.protocol.specs.Cookie.{nothing, found, counts, rightUnder, right}
+use Rattle.protocol.specs.Cookie.{nothing, found, right}
 use Rattle.protocol.specs.Refusals.{kindChecks}
 use Rattle.protocol.specs.Step.{cookiesEnabled, isEarly, isFresh, segmentEvent, slotAfter}
 use Rattle.protocol.specs.declared.state.Keys.{Keys}
 use Rattle.protocol.specs.declared.state.View.{View}
 use Rattle.protocol.proofs.Cookie.{carried-syn, never-right, no-cookie}
 use Rattle.protocol.proofs.Openings.{early-is, fresh-is}
-use Rattle.decisions.specs.Parts.{hasKind, isOpening, openingChecks, openingCheck, enabledWith, countedIn, isCounted, isFreshFor, laterChecks, laterEvent, laterSlot}
+use Rattle.decisions.specs.Parts.{hasKind, isOpening, openingChecks, openingCheck, countedIn, isCounted, isFreshFor, laterChecks, laterEvent, laterSlot}
 use Rattle.decisions.specs.declared.checks.OpeningCheck.the-variants as openings
 
 -- Kinds

@@ -1,8 +1,9 @@
 // The start, the calls and the readings. Each call carries a time in ms and returns the listener next; a refused one returns the listener as it was
 // and leaves the output alone.
 //
-// A listener is large, and a function that takes one and indexes its slots copies it. So each call scans the table itself, in the copy that becomes the
-// next listener, which it makes only after its first checks; and each of its ends is a `return`.
+// A listener is large, and a function that takes one and indexes its slots copies it. So each call goes through the table itself, in the copy that becomes
+// the next listener, which it makes only after its first checks; and each of its ends is a `return`. An opening scans the table, any other call that needs
+// a connection searches it.
 use cipher::expand_key;
 use decisions::action::cookies_enabled;
 use decisions::action::counted_option;
@@ -46,8 +47,8 @@ use segment::refusal::Check;
 use segment::refusal::Refusal;
 use table::scan::count_if;
 use table::scan::empty_scan;
+use table::scan::holds_peer;
 use table::scan::index_in_table;
-use table::scan::is_named;
 use table::scan::scan_slot;
 use table::scan::slot_found;
 use table::slot::free_slot;
@@ -198,6 +199,7 @@ pub fn segment(l: Listener, time: u64, src: &[u8], seg: &[u8], iss: u32, out: &m
             let mut next = l;
             let settings = next.settings;
             let b = block_of(src);
+            // An opening needs all of the table: the peer, a free slot, and how many are pending.
             if is_opening(kind) {
                 let mut scan = empty_scan();
                 for i in 0..SLOTS {
@@ -234,6 +236,7 @@ pub fn segment(l: Listener, time: u64, src: &[u8], seg: &[u8], iss: u32, out: &m
                         let i = scan.free;
                         let area = area_within(seg, h.offset);
                         let fast = counted_option(cookies_enabled(settings, scan.pending), area);
+                        // Without an option no key is read.
                         if !counts(fast) {
                             let new = open_plain(b, h, iss);
                             let cookie = [0u8; 8];
@@ -279,10 +282,11 @@ pub fn segment(l: Listener, time: u64, src: &[u8], seg: &[u8], iss: u32, out: &m
                     }
                 }
             }
+            // A completion or a reset needs its connection alone.
             let mut place: usize = 0;
             while place < SLOTS {
                 let s = next.slots[place];
-                if is_named(time, b, h.source, s) {
+                if holds_peer(time, b, h.source, s) {
                     break;
                 }
                 place += 1;
@@ -375,7 +379,7 @@ fn free_named(l: Listener, time: u64, addr: &[u8], port: u16, established: bool)
             let mut place: usize = 0;
             while place < SLOTS {
                 let s = next.slots[place];
-                if is_named(time, b, port, s) {
+                if holds_peer(time, b, port, s) {
                     break;
                 }
                 place += 1;
@@ -425,7 +429,7 @@ pub fn resend(l: Listener, time: u64, addr: &[u8], port: u16, out: &mut [u8]) ->
             let mut place: usize = 0;
             while place < SLOTS {
                 let s = next.slots[place];
-                if is_named(time, b, port, s) {
+                if holds_peer(time, b, port, s) {
                     break;
                 }
                 place += 1;

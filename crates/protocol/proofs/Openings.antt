@@ -24,7 +24,6 @@ use Rattle.protocol.specs.Call.{segment, sender}
 use Rattle.protocol.specs.View.{known, view}
 use Rattle.protocol.specs.Refusals.{wireChecks, callCheck}
 use Rattle.protocol.specs.Step.{cookiesEnabled, accepts, isEarly, isFresh, newEvent, newStatus, synAckTo, put, after, step}
-use Rattle.protocol.specs.declared.slots.Status.{Status}
 use Rattle.protocol.specs.declared.slots.Slot.{Slot}
 use Rattle.protocol.specs.declared.state.View.{View}
 use Rattle.protocol.specs.declared.state.Listener.{Listener}

@@ -35,7 +35,6 @@ use Rattle.protocol.specs.declared.state.Listener.{Listener}
 use Rattle.protocol.specs.declared.outcome.Event.{Event}
 use Rattle.protocol.specs.declared.outcome.Event.the-variants as events
 use Rattle.protocol.specs.declared.outcome.Outcome.{Outcome}
-use Rattle.protocol.specs.declared.slots.Status.the-variants as statuses
 use Rattle.protocol.specs.declared.slots.Slot.{Slot}
 use Rattle.protocol.specs.declared.slots.Scan.{Scan}
 use Rattle.protocol.proofs.Refusals.{checked-settings, checked-key, checked-release, checked-resend, checked-segment, step-refused, step-done, output-refused, output-done}
@@ -182,7 +181,7 @@ module _ (l : Listener) (t : ℕ) where
           let j = passed _ _ _ (checked-segment l t src seg iss out-len) first ∙ q in
           (step-refused l this j, output-refused l this j)
 
-      -- one that is done, with the event, the slot, and the fresh cookie if there is one, that its action came to
+      -- one that is done, with the event, the slot, and the fresh cookie if there is one, that it came to
       module _ (second : refusal (kindChecks the-view (fieldsOf seg) kind) ≡ Clear) {e : Event} {s : Slot}
           (event-is : e ≡ segmentEvent the-view (block src) seg kind) (slot-is : s ≡ slotAfter the-view (heldUntil the-view t) (block src) (fieldsOf seg) iss (segmentEvent the-view (block src) seg kind))
           {next : Listener} (moves : next ≡ segmentAfter l t found e s) where
@@ -225,7 +224,7 @@ pub written-over : {l : Listener} {e : Event} {n : ℕ} {s : Outcome} {bytes the
     → (record { listener = l; event = e; written = n } ≡ s) × (last ≡ overwrite bytes out)
 written-over out q w = (rw (w .0) (q .0), w .1 ∙ ap (λ (z : List ℕ). overwrite z out) (sym (q .1)))
 
--- a SYN-ACK sent again, from the slot that the scan found
+-- a SYN-ACK sent again, from the slot that was found
 module _ (l : Listener) (t : ℕ) (a : List ℕ) (p out-len : ℕ) (out : List ℕ) where
   abbrev here : View
   here = view l t (record { address = a; port = p })

@@ -1,4 +1,4 @@
--- What is found in an option area: a cookie lies in it and has 4 to 16 bytes, an even number. Assumes nothing.
+-- What is found in an option area: a cookie lies in it and has 4 to 16 bytes, an even number; and of which segments it counts. Assumes nothing.
 use Prim.Native.Nat.{ℕ, zero, suc, _+_, _-_, _%_, _≤_}
 use mathlib.Core.Path.{_≡_, refl}
 use mathlib.Core.Bool.{Bool, true, false, cond, _&&_, _||_}

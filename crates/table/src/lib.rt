@@ -1,3 +1,4 @@
-// The table of connections: its slots, and one scan of them that finds the peer's place, the lowest free place and pending.
+// The table of connections: its slots; one scan of them that finds the peer's place, the lowest free place and pending; and the test of a slot for a peer,
+// for a search that needs no more.
 pub mod scan;
 pub mod slot;

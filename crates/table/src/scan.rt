@@ -13,8 +13,8 @@ ghost use Prim.Native.Nat.{_<_};
 ghost use Rattle.protocol.specs.Table.{slotCount, holdsPeer};
 ghost use Rattle.table.specs.Scan.{firstPlace, countIf, scanWith, emptyScan, indexInTable, slotFound};
 
-// Whether the slot holds a connection of this name at the time. The name comes first: where only the name is looked for, most slots' statuses need not be read.
-pub fn is_named(time: u64, b: [u8; 16], port: u16, s: Slot) -> bool
+// Whether the slot holds a connection of this name at the time. The name comes first: in a search for it most slots' statuses need not be read.
+pub fn holds_peer(time: u64, b: [u8; 16], port: u16, s: Slot) -> bool
     ensures { λ r. ⌜ r ≡ holdsPeer time b port s ⌝ }
 {
     let a = s.addr;
@@ -60,7 +60,7 @@ fn with_place(scan: Scan, i: usize) -> Scan
     }
 }
 
-// What is known where a slot is pending or not.
+// One more pending, if this slot is.
 fn with_pending(scan: Scan, here: bool) -> Scan
     ensures { λ r. ⌜ r ≡ record { place = scan .place; free = scan .free; pending = countIf (scan .pending) here } ⌝ }
 {
@@ -74,8 +74,8 @@ fn with_pending(scan: Scan, here: bool) -> Scan
     scan
 }
 
-// The scan goes on by one slot: its status, then its port, then its address. Each answer has a return of its own, and what did not change is handed on whole: so a slot takes about
-// twelve instructions. The loop stands in the call.
+// The scan goes on by one slot: its status, then its port, then its address. Each answer has a return of its own, and what did not change is handed
+// on whole: so a slot takes about twelve instructions. The loop stands in the call.
 pub fn scan_slot(scan: Scan, i: usize, time: u64, b: [u8; 16], port: u16, s: Slot) -> Scan
     ensures { λ r. ⌜ r ≡ scanWith scan i time b port s ⌝ }
 {

@@ -20,7 +20,8 @@ use Rattle.protocol.specs.Table.{scanOf}
 use Rattle.protocol.specs.View.{slotAt, view}
 use Rattle.protocol.specs.Refusals.{isReleasable}
 use Rattle.protocol.proofs.Step.{release-stopped, release-none, release-done}
-use Rattle.listener.proofs.View.{SearchLoop, search-start, search-on, search-past, search-hit, slot-at, peer-slot, freed-is, released-in-table}
+use Rattle.table.proofs.Loops.{SearchLoop, search-start, search-on, search-past, search-hit}
+use Rattle.listener.proofs.Peer.{slot-at, peer-slot, freed-is, released-in-table}
 use Rattle.listener.proofs.calls.free_named.Statement.{statement}
 use Rattle.listener.proofs.calls.free_named.Tie as tie
 
@@ -111,7 +112,7 @@ loop-holds c =
 loop-again : tie.Need-loop-again Inv-loop μ-loop
 loop-again c =
     let at = c .before .before .before .before in
-    search-on _ _ _ _ (full (blocked at)) (at .loop .place) (at .loop .inv) _ (c .before .before .before .loop-test .taken) (c .before .is-named .ensures) (c .if1 .left)
+    search-on _ _ _ _ (full (blocked at)) (at .loop .place) (at .loop .inv) _ (c .before .before .before .loop-test .taken) (c .before .holds-peer .ensures) (c .if1 .left)
 
 mul-s-2 : tie.Need-mul-s-2 Inv-loop μ-loop
 mul-s-2 c = omega (arith, c .index-in-table .ensures .1)

@@ -22,7 +22,8 @@ use Rattle.protocol.specs.Refusals.{wireChecks}
 use Rattle.protocol.proofs.Step.{segment-stopped, wired-short, wired-timely, unwritten, left-alone, written-over}
 use Rattle.decisions.specs.Parts.{isOpening, laterChecks}
 use Rattle.decisions.proofs.Receive.{was-dropped, was-read}
-use Rattle.listener.proofs.View.{ScanLoop, scan-loop-start, scan-loop-on, scan-loop-end, SearchLoop, search-start, search-on, search-past, search-hit, slot-at}
+use Rattle.table.proofs.Loops.{ScanLoop, scan-loop-start, scan-loop-on, scan-loop-end, SearchLoop, search-start, search-on, search-past, search-hit}
+use Rattle.listener.proofs.Peer.{slot-at}
 use Rattle.listener.proofs.Segment.{kind-refused, opening-refused, repeated, free-in-table, opened-plain, opened-by-option, later-refused, later-in-table, later-done}
 use Rattle.listener.proofs.calls.segment.Statement.{statement}
 use Rattle.listener.proofs.calls.segment.Tie as tie
@@ -260,7 +261,7 @@ loop2-holds c =
 loop2-again : tie.Need-loop2-again Inv-loop μ-loop Inv-loop2 μ-loop2
 loop2-again c =
     let at = c .before .before .before .before in
-    search-on _ _ _ _ (full (n (at .before .before))) (at .loop2 .place) (at .loop2 .inv) _ (c .before .before .before .loop2-test .taken) (c .before .is-named .ensures) (c .if4 .left)
+    search-on _ _ _ _ (full (n (at .before .before))) (at .loop2 .place) (at .loop2 .inv) _ (c .before .before .before .loop2-test .taken) (c .before .holds-peer .ensures) (c .if4 .left)
 
 mul-s-4 : tie.Need-mul-s-4 Inv-loop μ-loop Inv-loop2 μ-loop2
 mul-s-4 c = omega (arith, c .index-in-table2 .ensures .1)
