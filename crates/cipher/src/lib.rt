@@ -1,16 +1,18 @@
-// AES-128 of FIPS 197: the key expansion, and the encryption of one block.
+// AES-128 of FIPS 197: the key expansion, and the encryption of one block, under one key schedule or under two.
 //
 // The state, four columns of four bytes, and the key schedule of 176 bytes pass by value through each round. To spare copies, the
 // functions inside a round are lent the schedule, and all are lent the tables. Numbers in brackets are sections of FIPS 197.
 mod sbox;
-pub mod ttable;
+mod ttable;
 
 use sbox::s_box;
 use ttable::t_table;
 ghost use mathlib.Core.Path.{_≡_};
+ghost use mathlib.Core.Bool.{cond};
 ghost use mathlib.Core.List.{_++_};
 ghost use Prim.Native.Nat.{_+_, _*_, _<_, _≤_};
 ghost use lib.ListN.{length, take, drop};
+ghost use Rattle.lists.specs.Bytes.{sameBytes};
 ghost use Rattle.cipher.specs.Cipher.{IsSBox, sBox, byte, four, word, xorWord, fromBlock, toBlock, subBytes, shiftRows, mixByte, mixColumns, addRoundKey, rounds, cipher};
 ghost use Rattle.cipher.specs.KeyExpansion.{rotWord, subWord, rcon, nextWord, keyExpansion};
 ghost use Rattle.cipher.specs.Packed.{bytesOf, share, IsTTable};
@@ -127,14 +129,16 @@ fn rotate(p: u32) -> u32
 
 // What x, in row 0, adds to its column.
 fn share_of(t: &[u32; 256], x: u8) -> u32
-    ensures { λ r. ⌜ (IsTTable (now (t .entry)) → bytesOf r ≡ share (sBox x)) ⌝ }
+    requires { ⌜ IsTTable (now t) ⌝ }
+    ensures { λ r. ⌜ bytesOf r ≡ share (sBox x) ⌝ }
 {
     t[x as usize]
 }
 
 // In row r a byte adds the same as in row 0, r places on; that is 4 - r places back, of which the inner rows, 2 and 1, share two.
 fn sub_mix_column(t: &[u32; 256], w: [u8; 4]) -> [u8; 4]
-    ensures { λ r. ⌜ (IsTTable (now (t .entry)) → r ≡ four (mixByte (subWord w))) ⌝ }
+    requires { ⌜ IsTTable (now t) ⌝ }
+    ensures { λ r. ⌜ r ≡ four (mixByte (subWord w)) ⌝ }
 {
     let outer = share_of(t, w[0]) ^ rotate(share_of(t, w[3]));
     let inner = share_of(t, w[2]) ^ rotate(share_of(t, w[1]));
@@ -142,7 +146,8 @@ fn sub_mix_column(t: &[u32; 256], w: [u8; 4]) -> [u8; 4]
 }
 
 fn sub_mix_columns(t: &[u32; 256], s: [[u8; 4]; 4]) -> [[u8; 4]; 4]
-    ensures { λ r. ⌜ (IsTTable (now (t .entry)) → r ≡ mixColumns (subBytes s)) ⌝ }
+    requires { ⌜ IsTTable (now t) ⌝ }
+    ensures { λ r. ⌜ r ≡ mixColumns (subBytes s) ⌝ }
 {
     [
         sub_mix_column(t, s[0]),
@@ -155,14 +160,16 @@ fn sub_mix_columns(t: &[u32; 256], s: [[u8; 4]; 4]) -> [[u8; 4]; 4]
 // SubBytes (5.1.1) alone, for the last round, from the same table: what x, in row 0, adds to row 1 is S-box(x).
 
 fn sub_byte_in(t: &[u32; 256], x: u8) -> u8
-    ensures { λ r. ⌜ (IsTTable (now (t .entry)) → r ≡ sBox x) ⌝ }
+    requires { ⌜ IsTTable (now t) ⌝ }
+    ensures { λ r. ⌜ r ≡ sBox x ⌝ }
 {
     let added = unpack(share_of(t, x));
     added[1]
 }
 
 fn sub_word_in(t: &[u32; 256], w: [u8; 4]) -> [u8; 4]
-    ensures { λ r. ⌜ (IsTTable (now (t .entry)) → r ≡ subWord w) ⌝ }
+    requires { ⌜ IsTTable (now t) ⌝ }
+    ensures { λ r. ⌜ r ≡ subWord w ⌝ }
 {
     [
         sub_byte_in(t, w[0]),
@@ -173,7 +180,8 @@ fn sub_word_in(t: &[u32; 256], w: [u8; 4]) -> [u8; 4]
 }
 
 fn sub_bytes(t: &[u32; 256], s: [[u8; 4]; 4]) -> [[u8; 4]; 4]
-    ensures { λ r. ⌜ (IsTTable (now (t .entry)) → r ≡ subBytes s) ⌝ }
+    requires { ⌜ IsTTable (now t) ⌝ }
+    ensures { λ r. ⌜ r ≡ subBytes s ⌝ }
 {
     [
         sub_word_in(t, s[0]),
@@ -209,15 +217,16 @@ fn add_round_key(s: [[u8; 4]; 4], w: &[u8; 176], n: usize) -> [[u8; 4]; 4]
 
 // Round n, from 1 to 9. ShiftRows comes first, since SubBytes is the same for every byte.
 fn round(s: [[u8; 4]; 4], round_keys: [u8; 176], t: &[u32; 256], n: usize) -> [[u8; 4]; 4]
-    requires { ⌜ n ≤ 10 ⌝ }
-    ensures { λ r. ⌜ (IsTTable (now (t .entry)) → r ≡ addRoundKey «round_keys» n (mixColumns (shiftRows (subBytes s)))) ⌝ }
+    requires { ⌜ IsTTable (now t) × (n ≤ 10) ⌝ }
+    ensures { λ r. ⌜ r ≡ addRoundKey «round_keys» n (mixColumns (shiftRows (subBytes s))) ⌝ }
 {
     add_round_key(sub_mix_columns(t, shift_rows(s)), &round_keys, n)
 }
 
 // Rounds 1 to 9. No loop: where the number of a round is a constant, its round key is read in place and the schedule is not copied.
 fn nine_rounds(s: [[u8; 4]; 4], round_keys: [u8; 176], t: &[u32; 256]) -> [[u8; 4]; 4]
-    ensures { λ r. ⌜ (IsTTable (now (t .entry)) → r ≡ rounds «round_keys» 9 s) ⌝ }
+    requires { ⌜ IsTTable (now t) ⌝ }
+    ensures { λ r. ⌜ r ≡ rounds «round_keys» 9 s ⌝ }
 {
     let s1 = round(s, round_keys, t, 1);
     let s2 = round(s1, round_keys, t, 2);
@@ -232,27 +241,93 @@ fn nine_rounds(s: [[u8; 4]; 4], round_keys: [u8; 176], t: &[u32; 256]) -> [[u8; 
 
 // Round 10, which mixes no columns.
 fn last_round(s: [[u8; 4]; 4], round_keys: [u8; 176], t: &[u32; 256]) -> [[u8; 4]; 4]
-    ensures { λ r. ⌜ (IsTTable (now (t .entry)) → r ≡ addRoundKey «round_keys» 10 (shiftRows (subBytes s))) ⌝ }
+    requires { ⌜ IsTTable (now t) ⌝ }
+    ensures { λ r. ⌜ r ≡ addRoundKey «round_keys» 10 (shiftRows (subBytes s)) ⌝ }
 {
     add_round_key(shift_rows(sub_bytes(t, s)), &round_keys, 10)
 }
 
-// The encryption of one block under a key schedule: round key n is its bytes 16 n to 16 n + 15, as `expand_key` lays them out. Any other
-// 176 bytes are taken as a schedule too. The T-table is lent, so that blocks can share one.
-pub fn encrypt_with(t: &[u32; 256], round_keys: [u8; 176], block: [u8; 16]) -> [u8; 16]
-    ensures { λ r. ⌜ (IsTTable (now (t .entry)) → r ≡ cipher «round_keys» block) ⌝ }
+// The T-table is lent, so that two blocks can share one.
+fn encrypt_with(t: &[u32; 256], round_keys: [u8; 176], block: [u8; 16]) -> [u8; 16]
+    requires { ⌜ IsTTable (now t) ⌝ }
+    ensures { λ r. ⌜ r ≡ cipher «round_keys» block ⌝ }
 {
     let s = add_round_key(from_block(block), &round_keys, 0);
     let s9 = nine_rounds(s, round_keys, t);
     to_block(last_round(s9, round_keys, t))
 }
 
-// A block by itself, with a T-table of its own.
+// The encryption of one block under a key schedule: round key n is its bytes 16 n to 16 n + 15, as `expand_key` lays them out. Any other
+// 176 bytes are taken as a schedule too.
 pub fn encrypt(round_keys: [u8; 176], block: [u8; 16]) -> [u8; 16]
     ensures { λ r. ⌜ r ≡ cipher «round_keys» block ⌝ }
 {
     let t = t_table();
     encrypt_with(&t, round_keys, block)
+}
+
+// The first half of a block
+
+pub fn first_half(block: [u8; 16]) -> [u8; 8]
+    ensures { λ r. ⌜ r ≡ take 8 block ⌝ }
+{
+    [
+        block[0],
+        block[1],
+        block[2],
+        block[3],
+        block[4],
+        block[5],
+        block[6],
+        block[7],
+    ]
+}
+
+// Whether these bytes are that half. Every byte is compared, with no early exit.
+pub fn is_half(given: &[u8], half: [u8; 8]) -> bool
+    ensures { λ r. ⌜ r ≡ sameBytes (now (given .entry)) half ⌝ }
+{
+    if given.len() != 8 {
+        return false;
+    }
+    let mut same = true;
+    for i in 0..8 {
+        if given[i] != half[i] {
+            same = false;
+        }
+    }
+    same
+}
+
+// A block under two key schedules
+
+// Its two encryptions. Where the first settles it, the second is not made, and `second` is the first again.
+pub struct Encrypted {
+    pub first: [u8; 16],
+    pub second: [u8; 16],
+}
+
+// Encrypts a block under one key schedule and, where the first half of that is not `given`, under another, both with one T-table.
+pub fn encrypt_until(
+    given: &[u8],
+    first: [u8; 176],
+    second: [u8; 176],
+    block: [u8; 16],
+) -> Encrypted
+    ensures { λ r. ⌜ r ≡ record { first = cipher «first» block; second = cond (sameBytes (now (given .entry)) (take 8 (cipher «first» block))) (cipher «first» block) (cipher «second» block) } ⌝ }
+{
+    let t = t_table();
+    let one = encrypt_with(&t, first, block);
+    if is_half(given, first_half(one)) {
+        return Encrypted {
+            first: one,
+            second: one,
+        };
+    }
+    Encrypted {
+        first: one,
+        second: encrypt_with(&t, second, block),
+    }
 }
 
 // KeyExpansion (5.2)

@@ -1,61 +1,21 @@
-// The Fast Open cookie: made, compared, and checked for an opening.
-use cipher::encrypt_with;
-use cipher::ttable::t_table;
+// The Fast Open cookie: made, and checked for an opening.
+use cipher::encrypt;
+use cipher::encrypt_until;
+use cipher::first_half;
+use cipher::is_half;
 use protocol::state::Keys;
 use segment::options::FastOpenOption;
 use segment::options::cookie;
 ghost use mathlib.Core.Path.{_≡_};
-ghost use lib.ListN.{take};
 ghost use mathlib.Core.Bool.{true, false, _&&_, not};
-ghost use Rattle.lists.specs.Bytes.{sameBytes};
-ghost use Rattle.cipher.specs.Packed.{IsTTable};
 ghost use Rattle.protocol.specs.Cookie.{cookieUnder, found, counts, rightUnder, right};
 ghost use Rattle.cookie.specs.Check.{cookieCheck};
 
-fn first_eight(block: [u8; 16]) -> [u8; 8]
-    ensures { λ r. ⌜ r ≡ take 8 block ⌝ }
-{
-    [
-        block[0],
-        block[1],
-        block[2],
-        block[3],
-        block[4],
-        block[5],
-        block[6],
-        block[7],
-    ]
-}
-
-// The cookie of an address, by its block, under a key's round keys. The cipher's T-table is lent, so that two cookies can share one.
-fn cookie_with(t: &[u32; 256], round_keys: [u8; 176], b: [u8; 16]) -> [u8; 8]
-    requires { ⌜ IsTTable (now t) ⌝ }
-    ensures { λ r. ⌜ r ≡ cookieUnder «round_keys» b ⌝ }
-{
-    first_eight(encrypt_with(t, round_keys, b))
-}
-
+// The cookie of an address, by its block, under a key's round keys.
 pub fn make_cookie(round_keys: [u8; 176], b: [u8; 16]) -> [u8; 8]
     ensures { λ r. ⌜ r ≡ cookieUnder «round_keys» b ⌝ }
 {
-    let t = t_table();
-    cookie_with(&t, round_keys, b)
-}
-
-// Whether these bytes are that cookie. Every byte is compared, with no early exit.
-fn is_cookie(given: &[u8], cookie: [u8; 8]) -> bool
-    ensures { λ r. ⌜ r ≡ sameBytes (now (given .entry)) cookie ⌝ }
-{
-    if given.len() != 8 {
-        return false;
-    }
-    let mut same = true;
-    for i in 0..8 {
-        if given[i] != cookie[i] {
-            same = false;
-        }
-    }
-    same
+    first_half(encrypt(round_keys, b))
 }
 
 // What is made of an opening's Fast Open option: whether its cookie is right, and whether a fresh one is to go with the SYN-ACK.
@@ -80,18 +40,22 @@ fn checked(right: bool, fresh: bool, cookie: [u8; 8]) -> OptionCheck
 fn check_cookie(keys: Keys, b: [u8; 16], given: &[u8]) -> OptionCheck
     ensures { λ r. ⌜ r ≡ cookieCheck keys b (now (given .entry)) ⌝ }
 {
-    let t = t_table();
     let present = keys.present;
-    let new = cookie_with(&t, present, b);
-    if is_cookie(given, new) {
-        return checked(true, false, new);
-    }
     if !keys.rotated {
-        return checked(false, true, new);
+        let only = make_cookie(present, b);
+        let same = is_half(given, only);
+        return checked(same, !same, only);
     }
     let previous = keys.previous;
-    let old = cookie_with(&t, previous, b);
-    checked(is_cookie(given, old), true, new)
+    let made = encrypt_until(given, present, previous, b);
+    let one = made.first;
+    let new = first_half(one);
+    if is_half(given, new) {
+        return checked(true, false, new);
+    }
+    let two = made.second;
+    let old = first_half(two);
+    checked(is_half(given, old), true, new)
 }
 
 // No option that counts, or no cookies now.

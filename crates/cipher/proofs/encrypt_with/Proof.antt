@@ -6,7 +6,7 @@ use Rattle.cipher.proofs.encrypt_with.Statement.{statement}
 use Rattle.cipher.proofs.encrypt_with.Tie as tie
 
 returns : tie.Need-returns
-returns c rule = cipher-done _ _ (c .before .before .before .before .before .from-block .ensures) (c .before .before .before .add-round-key .ensures) (c .before .before .nine-rounds .ensures rule) (c .before .last-round .ensures rule) (c .to-block .ensures)
+returns c = cipher-done _ _ (c .before .before .before .before .before .from-block .ensures) (c .before .before .before .add-round-key .ensures) (c .before .before .nine-rounds .ensures) (c .before .last-round .ensures) (c .to-block .ensures)
 
 pub encrypt-with-spec : {M : Type 1} → statement M
 encrypt-with-spec =

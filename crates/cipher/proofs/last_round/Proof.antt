@@ -6,9 +6,9 @@ use Rattle.cipher.proofs.last_round.Statement.{statement}
 use Rattle.cipher.proofs.last_round.Tie as tie
 
 returns : tie.Need-returns
-returns c rule =
+returns c =
     let s = c .before .before .before .before .args in
-    last-done (s .t2) (s .s) (c .before .before .before .sub-bytes .ensures rule) (c .before .before .shift-rows .ensures) (c .add-round-key .ensures)
+    last-done (s .t2) (s .s) (c .before .before .before .sub-bytes .ensures) (c .before .before .shift-rows .ensures) (c .add-round-key .ensures)
 
 pub last-round-spec : {M : Type 1} → statement M
 last-round-spec =

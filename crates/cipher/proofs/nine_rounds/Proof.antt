@@ -6,16 +6,16 @@ use Rattle.cipher.proofs.nine_rounds.Statement.{statement}
 use Rattle.cipher.proofs.nine_rounds.Tie as tie
 
 returns : tie.Need-returns
-returns c rule =
-    next-round _ _ 8 (c .round9 .ensures rule)
-    (next-round _ _ 7 (c .before .round8 .ensures rule)
-    (next-round _ _ 6 (c .before .before .round7 .ensures rule)
-    (next-round _ _ 5 (c .before .before .before .round6 .ensures rule)
-    (next-round _ _ 4 (c .before .before .before .before .round5 .ensures rule)
-    (next-round _ _ 3 (c .before .before .before .before .before .round4 .ensures rule)
-    (next-round _ _ 2 (c .before .before .before .before .before .before .round3 .ensures rule)
-    (next-round _ _ 1 (c .before .before .before .before .before .before .before .round2 .ensures rule)
-    (next-round _ _ 0 (c .before .before .before .before .before .before .before .before .round .ensures rule) (no-round _ _)))))))))
+returns c =
+    next-round _ _ 8 (c .round9 .ensures)
+    (next-round _ _ 7 (c .before .round8 .ensures)
+    (next-round _ _ 6 (c .before .before .round7 .ensures)
+    (next-round _ _ 5 (c .before .before .before .round6 .ensures)
+    (next-round _ _ 4 (c .before .before .before .before .round5 .ensures)
+    (next-round _ _ 3 (c .before .before .before .before .before .round4 .ensures)
+    (next-round _ _ 2 (c .before .before .before .before .before .before .round3 .ensures)
+    (next-round _ _ 1 (c .before .before .before .before .before .before .before .round2 .ensures)
+    (next-round _ _ 0 (c .before .before .before .before .before .before .before .before .round .ensures) (no-round _ _)))))))))
 
 pub nine-rounds-spec : {M : Type 1} → statement M
 nine-rounds-spec =

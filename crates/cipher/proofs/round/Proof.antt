@@ -6,9 +6,9 @@ use Rattle.cipher.proofs.round.Statement.{statement}
 use Rattle.cipher.proofs.round.Tie as tie
 
 returns : tie.Need-returns
-returns c rule =
+returns c =
     let s = c .before .before .before .before .args in
-    round-done (s .t2) (s .n) (s .s) (c .before .before .before .shift-rows .ensures) (c .before .before .sub-mix-columns .ensures rule) (c .add-round-key .ensures)
+    round-done (s .t2) (s .n) (s .s) (c .before .before .before .shift-rows .ensures) (c .before .before .sub-mix-columns .ensures) (c .add-round-key .ensures)
 
 pub round-spec : {M : Type 1} → statement M
 round-spec =

@@ -7,7 +7,7 @@ use Rattle.cipher.proofs.share_of.Tie as tie
 
 returns : tie.Need-returns
 unfolding IsTTable
-returns c rule = rule (c .before .args .x) (search needs)
+returns c = c .before .pre (c .before .args .x) (search needs)
 
 pub share-of-spec : {M : Type 1} → statement M
 share-of-spec = tie.close (tie.spec (λ c. search needs) (λ c. search needs) returns)

@@ -7,7 +7,7 @@ use Rattle.cipher.proofs.sub_byte_in.Statement.{statement}
 use Rattle.cipher.proofs.sub_byte_in.Tie as tie
 
 returns : tie.Need-returns
-returns c rule = ap (λ (w : Bytes). byte w 1) (c .unpack .ensures ∙ c .before .share-of .ensures rule)
+returns c = ap (λ (w : Bytes). byte w 1) (c .unpack .ensures ∙ c .before .share-of .ensures)
 
 pub sub-byte-in-spec : {M : Type 1} → statement M
 sub-byte-in-spec =

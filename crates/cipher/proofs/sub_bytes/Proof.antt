@@ -6,7 +6,7 @@ use Rattle.cipher.proofs.sub_bytes.Statement.{statement}
 use Rattle.cipher.proofs.sub_bytes.Tie as tie
 
 returns : tie.Need-returns
-returns c rule = four-equal (c .before .before .before .before .before .before .sub-word-in .ensures rule) (c .before .before .before .before .sub-word-in2 .ensures rule) (c .before .before .sub-word-in3 .ensures rule) (c .sub-word-in4 .ensures rule)
+returns c = four-equal (c .before .before .before .before .before .before .sub-word-in .ensures) (c .before .before .before .before .sub-word-in2 .ensures) (c .before .before .sub-word-in3 .ensures) (c .sub-word-in4 .ensures)
 
 pub sub-bytes-spec : {M : Type 1} → statement M
 sub-bytes-spec =

@@ -6,7 +6,7 @@ use Rattle.cipher.proofs.sub_mix_columns.Statement.{statement}
 use Rattle.cipher.proofs.sub_mix_columns.Tie as tie
 
 returns : tie.Need-returns
-returns c rule = four-equal (c .before .before .before .before .before .before .sub-mix-column .ensures rule) (c .before .before .before .before .sub-mix-column2 .ensures rule) (c .before .before .sub-mix-column3 .ensures rule) (c .sub-mix-column4 .ensures rule)
+returns c = four-equal (c .before .before .before .before .before .before .sub-mix-column .ensures) (c .before .before .before .before .sub-mix-column2 .ensures) (c .before .before .sub-mix-column3 .ensures) (c .sub-mix-column4 .ensures)
 
 pub sub-mix-columns-spec : {M : Type 1} → statement M
 sub-mix-columns-spec =

@@ -6,7 +6,7 @@ use Rattle.cipher.proofs.sub_word_in.Statement.{statement}
 use Rattle.cipher.proofs.sub_word_in.Tie as tie
 
 returns : tie.Need-returns
-returns c rule = four-equal (c .before .before .before .sub-byte-in .ensures rule) (c .before .before .sub-byte-in2 .ensures rule) (c .before .sub-byte-in3 .ensures rule) (c .sub-byte-in4 .ensures rule)
+returns c = four-equal (c .before .before .before .sub-byte-in .ensures) (c .before .before .sub-byte-in2 .ensures) (c .before .sub-byte-in3 .ensures) (c .sub-byte-in4 .ensures)
 
 pub sub-word-in-spec : {M : Type 1} → statement M
 sub-word-in-spec =

@@ -1,12 +1,12 @@
--- `cookie::first_eight` meets its contract: the first eight elements, one by one.
+-- `cipher::first_half` meets its contract: the first eight elements, one by one.
 -- Assumes nothing.
 use mathlib.Core.Path.{_≡_}
 use native.Mathlib.Omega.{arith}
 use lib.ListN.{length}
 use Rattle.lists.proofs.Elements.{eight}
 use borrow.Author.Needs.{needs}
-use Rattle.cookie.proofs.first_eight.Statement.{statement}
-use Rattle.cookie.proofs.first_eight.Tie as tie
+use Rattle.cipher.proofs.first_half.Statement.{statement}
+use Rattle.cipher.proofs.first_half.Tie as tie
 
 returns : tie.Need-returns
 returns c =
@@ -14,8 +14,8 @@ returns c =
     let n : length b ≡ 16 = search needs in
     eight b (omega arith)
 
-pub first-eight-spec : {M : Type 1} → statement M
-first-eight-spec =
+pub first-half-spec : {M : Type 1} → statement M
+first-half-spec =
     tie.close
     (tie.spec
     (λ c. search needs) (λ c. search needs) (λ c. search needs) (λ c. search needs) (λ c. search needs)
