@@ -1,7 +1,7 @@
 -- What a Fast Open option comes to, from what the functions on the way ensure. Assumes nothing.
 use Prim.Native.Nat.{ℕ}
 use mathlib.Core.Path.{_≡_, ap, sym, _∙_}
-use mathlib.Core.Bool.{Bool, true, false, cond, not, _&&_, false≢true, and-false}
+use mathlib.Core.Bool.{Bool, true, false, cond, not, _&&_, false≢true}
 use mathlib.Core.List.{List}
 use lib.ListN.{take}
 use Rattle.lists.specs.Bytes.{sameBytes}
@@ -11,7 +11,6 @@ use Rattle.cookie.specs.Check.{cookieCheck}
 use Rattle.protocol.proofs.Cookie.{cookie-is, cookie-compared, no-cookie, right-now, right-alone, right-else, never-right}
 use Rattle.protocol.specs.declared.state.Keys.{Keys}
 use Rattle.cookie.specs.declared.OptionCheck.{OptionCheck}
-use Rattle.protocol.specs.declared.outcome.Event.the-variants as events
 
 -- A cookie that was given: it is the present key's, or there is no other key, or it is compared with the previous key's too.
 module _ (k : Keys) (b given : List ℕ) {f : List ℕ} (e : f ≡ cookieUnder (k .present) b) where
@@ -37,25 +36,19 @@ pub went-on : (given w v b : List ℕ) {two f : List ℕ} → two ≡ cond (same
     → take 8 two ≡ cookieUnder v b
 went-on given w v b e n s = ap (λ (x : List ℕ). take 8 x) (rw (rw (n, sym (cookie-is w b)) at s) at e) ∙ cookie-is v b
 
--- what an option's check is to be, where cookies are enabled or not
-abbrev pub Considered : Bool → Keys → List ℕ → Carried → OptionCheck → Type 0
-Considered enabled k b o r =
-    (r .right ≡ enabled && right k b o)
-    × ((r .fresh ≡ enabled && (counts o && not (rightUnder (k .present) b o)))
+-- what an option's check is to be
+abbrev pub Considered : Keys → List ℕ → Carried → OptionCheck → Type 0
+Considered k b o r =
+    (r .right ≡ right k b o)
+    × ((r .fresh ≡ counts o && not (rightUnder (k .present) b o))
     × (r .fresh ≡ true → r .cookie ≡ cookieUnder (k .present) b))
 
-module _ (enabled : Bool) (k : Keys) (b : List ℕ) (r : OptionCheck) where
-  none-fresh : r .fresh ≡ false → r .fresh ≡ true → r .cookie ≡ cookieUnder (k .present) b
-  none-fresh f t = absurd (false≢true (sym f ∙ t))
+module _ (k : Keys) (b : List ℕ) (r : OptionCheck) where
+  pub considered-nothing : r .right ≡ false → r .fresh ≡ false → Considered k b nothing r
+  considered-nothing x f = (rw (never-right k b nothing (λ w. no-cookie w b .0)) x, (f, λ t. absurd (false≢true (sym f ∙ t))))
 
-  pub considered-off : (o : Carried) → enabled ≡ false → r .right ≡ false → r .fresh ≡ false → Considered enabled k b o r
-  considered-off o n x f = (rw (n, x), (rw (n, f), none-fresh f))
+  pub considered-request : r .right ≡ false → r .fresh ≡ true → r .cookie ≡ cookieUnder (k .present) b → Considered k b request r
+  considered-request x f c = (rw (never-right k b request (λ w. no-cookie w b .1)) x, (rw (f, no-cookie (k .present) b .1), λ _. c))
 
-  pub considered-nothing : r .right ≡ false → r .fresh ≡ false → Considered enabled k b nothing r
-  considered-nothing x f = (rw (never-right k b nothing (λ w. no-cookie w b .0)) (x ∙ sym (and-false enabled)), (f ∙ sym (and-false enabled), none-fresh f))
-
-  pub considered-request : enabled ≡ true → r .right ≡ false → r .fresh ≡ true → r .cookie ≡ cookieUnder (k .present) b → Considered enabled k b request r
-  considered-request n x f c = (rw (never-right k b request (λ w. no-cookie w b .1)) (x ∙ sym (and-false enabled)), (rw (n, f, no-cookie (k .present) b .1), λ _. c))
-
-  pub considered-cookie : (given : List ℕ) → enabled ≡ true → r ≡ cookieCheck k b given → Considered enabled k b (cookie given) r
-  considered-cookie given n e = (rw (n, e), (rw (n, e), λ _. rw e))
+  pub considered-cookie : (given : List ℕ) → r ≡ cookieCheck k b given → Considered k b (cookie given) r
+  considered-cookie given e = (rw e, (rw e, λ _. rw e))

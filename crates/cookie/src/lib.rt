@@ -58,28 +58,19 @@ fn check_cookie(keys: Keys, b: [u8; 16], given: &[u8]) -> OptionCheck
     checked(is_half(given, old), true, new)
 }
 
-// No option that counts, or no cookies now.
+// No option that counts.
 fn no_option() -> OptionCheck
     ensures { λ r. ⌜ (r .right ≡ false) × (r .fresh ≡ false) ⌝ }
 {
     checked(false, false, [0u8; 8])
 }
 
-// What is made of the option that was found in an area. Where cookies are not enabled, nothing is computed.
-pub fn check_option(
-    enabled: bool,
-    keys: Keys,
-    b: [u8; 16],
-    area: &[u8],
-    fast: FastOpenOption,
-) -> OptionCheck
-    ensures { λ r. ⌜ r .right ≡ enabled && right keys b (found fast (now (area .entry))) ⌝ }
-    ensures { λ r. ⌜ r .fresh ≡ enabled && (counts (found fast (now (area .entry))) && not (rightUnder (keys .present) b (found fast (now (area .entry))))) ⌝ }
+// What is made of the option that was found in an area.
+pub fn check_option(keys: Keys, b: [u8; 16], area: &[u8], fast: FastOpenOption) -> OptionCheck
+    ensures { λ r. ⌜ r .right ≡ right keys b (found fast (now (area .entry))) ⌝ }
+    ensures { λ r. ⌜ r .fresh ≡ counts (found fast (now (area .entry))) && not (rightUnder (keys .present) b (found fast (now (area .entry)))) ⌝ }
     ensures { λ r. ⌜ (r .fresh ≡ true → r .cookie ≡ cookieUnder (keys .present) b) ⌝ }
 {
-    if !enabled {
-        return no_option();
-    }
     match fast {
         FastOpenOption::Absent => no_option(),
         FastOpenOption::Request => {

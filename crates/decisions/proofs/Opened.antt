@@ -25,7 +25,7 @@ Opens keys b h iss o accepts r =
     × (r .fresh ≡ true → r .cookie ≡ cookieUnder (keys .present) b)))
 
 -- by what its option was found to be
-module _ (keys : Keys) (b : List ℕ) (h : Header) (iss : ℕ) (o : Carried) (accepts : ℕ) (r : OptionCheck) (c : Considered true keys b o r) where
+module _ (keys : Keys) (b : List ℕ) (h : Header) (iss : ℕ) (o : Carried) (accepts : ℕ) (r : OptionCheck) (c : Considered keys b o r) where
   pub opens-early : {n : ℕ} {s : Slot} → r .right ≡ true → n ≡ accepts → s ≡ newSlot b (h .source) (h .seq) iss (SynReceivedEarly n)
       → Opens keys b h iss o accepts (record { event = events.FastOpened n; slot = s; fresh = r .fresh; cookie = r .cookie })
   opens-early y m e =

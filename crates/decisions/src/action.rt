@@ -105,7 +105,7 @@ pub fn open_by_option(
     ensures { λ r. ⌜ r .fresh ≡ isFreshFor keys b (found fast (now (area .entry))) ⌝ }
     ensures { λ r. ⌜ (r .fresh ≡ true → r .cookie ≡ cookieUnder (keys .present) b) ⌝ }
 {
-    let option = check_option(true, keys, b, area, fast);
+    let option = check_option(keys, b, area, fast);
     let cookie = option.cookie;
     if option.right {
         let n = accept(payload, g.early_room);
