@@ -4,6 +4,7 @@ use mathlib.Core.Path.{_≡_, refl}
 use mathlib.Core.Bool.{Bool, true, false, cond, _&&_, true≢false, false≢true}
 use mathlib.Core.List.{List}
 use native.Mathlib.Omega.{arith}
+use lib.Dec.{ltb}
 use Rattle.segment.specs.Header.{fieldsOf, kindOf, optionArea}
 use Rattle.segment.specs.Options.{readOptions}
 use Rattle.segment.specs.declared.refusal.Refusal.{Refusal}
@@ -16,12 +17,13 @@ use Rattle.segment.specs.declared.header.Kind.{Kind}
 use Rattle.segment.specs.declared.header.Kind.the-variants.{Syn, Rst, Ack, Other}
 use Rattle.protocol.specs.Cookie.{nothing, found, right}
 use Rattle.protocol.specs.Refusals.{kindChecks}
-use Rattle.protocol.specs.Step.{cookiesEnabled, isEarly, isFresh, segmentEvent, slotAfter}
+use Rattle.protocol.specs.Table.{newSlot}
+use Rattle.protocol.specs.Step.{cookiesEnabled, isEarly, isFresh, newEvent, newStatus, segmentEvent, slotAfter, writesSynAck, freshWith}
 use Rattle.protocol.specs.declared.state.Keys.{Keys}
 use Rattle.protocol.specs.declared.state.View.{View}
 use Rattle.protocol.proofs.Cookie.{carried-syn, never-right, no-cookie}
 use Rattle.protocol.proofs.Openings.{early-is, fresh-is}
-use Rattle.decisions.specs.Parts.{hasKind, isOpening, openingChecks, openingCheck, countedIn, isCounted, isFreshFor, laterChecks, laterEvent, laterSlot}
+use Rattle.decisions.specs.Parts.{hasKind, isOpening, openingChecks, openingCheck, enabledWith, countedIn, isCounted, isFreshFor, laterChecks, laterEvent, laterSlot}
 use Rattle.decisions.specs.declared.checks.OpeningCheck.the-variants as openings
 
 -- Kinds
@@ -70,9 +72,27 @@ module _ (keys : Keys) (b area : List ℕ) where
   by-option false f e = absurd (false≢true e)
   by-option true f e = (refl, refl)
 
+-- and whatever it is, it is answered
+pub new-writes : (early : Bool) (n : ℕ) → writesSynAck (newEvent early n) ≡ true
+new-writes true n = refl
+new-writes false n = refl
+
 module _ (v : View) where
   pub opening-checks : (h : Header) → openingChecks (v .slot) (v .vacant) h ≡ kindChecks v h Syn
   opening-checks h = refl
+
+  pub enabled-with : (pending : ℕ) → v .below ≡ ltb pending (v .settings .limit) → enabledWith (v .settings) pending ≡ cookiesEnabled v
+  enabled-with pending e = rw e
+
+  -- its slot, and whether a fresh cookie goes with its SYN-ACK
+  pub new-slot : (end : ℕ) (b : List ℕ) (h : Header) (iss : ℕ) (early : Bool) (n : ℕ)
+      → newSlot b (h .source) (h .seq) iss (newStatus early n) ≡ slotAfter v end b h iss (newEvent early n)
+  new-slot end b h iss true n = refl
+  new-slot end b h iss false n = refl
+
+  pub new-fresh : (b seg : List ℕ) (early : Bool) (n : ℕ) → isFresh v b seg ≡ freshWith v b seg (newEvent early n)
+  new-fresh b seg true n = refl
+  new-fresh b seg false n = refl
 
   module _ (b seg : List ℕ) (syn : kindOf (fieldsOf seg .flags) ≡ Syn) {fast : FastOpenOption} (ef : fast ≡ countedIn (cookiesEnabled v) (optionArea seg)) where
     pub opens-plain : isCounted fast ≡ false → (isEarly v b seg ≡ false) × (isFresh v b seg ≡ false)

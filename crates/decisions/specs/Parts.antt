@@ -1,4 +1,5 @@
--- The rules, on the parts of a view that each of them reads. No document has it: it carries `kindChecks`, `openingEvent`, `slotAfter` and `freshWith` to the code, which makes no view.
+-- The rules, on the parts of a view that each of them reads. No document has it: it carries `kindChecks`, `cookiesEnabled`, `isEarly`, `isFresh`, `segmentEvent` and `slotAfter` to the code,
+-- which makes no view.
 -- Assumes nothing.
 use Prim.Native.Nat.{ℕ}
 use mathlib.Core.List.{List, [], _∷_}

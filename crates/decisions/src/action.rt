@@ -124,7 +124,7 @@ pub fn open_by_option(
     }
 }
 
-// What a later segment comes to.
+// What a later segment, a completion or a reset, comes to.
 pub fn later_event(kind: Kind) -> Event
     ensures { λ r. ⌜ r ≡ laterEvent kind ⌝ }
 {

@@ -27,7 +27,7 @@ use Rattle.protocol.specs.Table.{isFree, isWaiting, freeSlot, newSlot, scanOf}
 use Rattle.protocol.specs.Call.{Call, segment, sender}
 use Rattle.protocol.specs.View.{ownAddress, slotAt, scanFor, view}
 use Rattle.protocol.specs.Refusals.{kindChecks, wireChecks}
-use Rattle.protocol.specs.Step.{cookiesEnabled, isEarly, isFresh, accepts, newEvent, newStatus, segmentEvent, heldUntil, slotAfter, freshWith, synAckFrom, writesSynAck, segmentAfter, moved, put, step, outputOf}
+use Rattle.protocol.specs.Step.{cookiesEnabled, isEarly, isFresh, accepts, newEvent, newStatus, segmentEvent, heldUntil, synAckFrom, writesSynAck, segmentAfter, moved, put, step, outputOf}
 use Rattle.protocol.specs.declared.state.View.{View}
 use Rattle.protocol.specs.declared.state.Listener.{Listener}
 use Rattle.protocol.specs.declared.outcome.Event.{Event}
@@ -42,26 +42,13 @@ use Rattle.decisions.specs.Parts.{hasKind, isOpening, openingChecks, openingChe
 use Rattle.decisions.specs.declared.action.Opened.{Opened}
 use Rattle.decisions.specs.declared.checks.OpeningCheck.{OpeningCheck}
 use Rattle.decisions.specs.declared.checks.OpeningCheck.the-variants as openings
-use Rattle.decisions.proofs.Parts.{no-kind, opening-kind, was-refused, was-repeat, was-new, opening-checks, opens-plain, opens-by-option, later-checks, later-event, later-slot}
+use Rattle.decisions.proofs.Parts.{no-kind, opening-kind, was-refused, was-repeat, was-new, opening-checks, enabled-with, opens-plain, opens-by-option, new-slot, new-fresh, new-writes, later-checks, later-event, later-slot}
 use Rattle.decisions.proofs.Opened.{Opens}
 
--- A new connection, early or plain
-module _ (l : Listener) (t : ℕ) (scan : Scan) (v : View) (end : ℕ) (b : List ℕ) (h : Header) (iss : ℕ) (seg : List ℕ) (s : Slot) where
-  new-place : (early : Bool) (n : ℕ) → put l t (scan .free) s ≡ segmentAfter l t scan (newEvent early n) s
-  new-place true n = refl
-  new-place false n = refl
-
-  new-slot : (early : Bool) (n : ℕ) → newSlot b (h .source) (h .seq) iss (newStatus early n) ≡ slotAfter v end b h iss (newEvent early n)
-  new-slot true n = refl
-  new-slot false n = refl
-
-  new-fresh : (early : Bool) (n : ℕ) → isFresh v b seg ≡ freshWith v b seg (newEvent early n)
-  new-fresh true n = refl
-  new-fresh false n = refl
-
-  new-writes : (early : Bool) (n : ℕ) → writesSynAck (newEvent early n) ≡ true
-  new-writes true n = refl
-  new-writes false n = refl
+-- a new connection, early or plain, takes the lowest free place
+new-place : (l : Listener) (t : ℕ) (scan : Scan) (s : Slot) (early : Bool) (n : ℕ) → put l t (scan .free) s ≡ segmentAfter l t scan (newEvent early n) s
+new-place l t scan s true n = refl
+new-place l t scan s false n = refl
 
 module _ (l : Listener) (t : ℕ) (src seg : List ℕ) (iss out-len : ℕ) (first : refusal (wireChecks (l .local) (isUntimely (l .clock) t) src seg out-len) ≡ Clear)
     {h : Header} {b : List ℕ} (eh : h ≡ fieldsOf seg) (eb : b ≡ block src) where
@@ -131,7 +118,7 @@ module _ (l : Listener) (t : ℕ) (src seg : List ℕ) (iss out-len : ℕ) (firs
           formed = wired-formed (l .local) (isUntimely (l .clock) t) src seg out-len first
 
           enabled-is : enabled ≡ cookiesEnabled v
-          enabled-is = rw scan-is at ee
+          enabled-is = ee ∙ enabled-with v (scan .pending) (rw scan-is)
 
           area-as : area ≡ optionArea seg
           area-as = rw (eh, offset-is seg) at ea ∙ area-is seg formed
@@ -146,11 +133,11 @@ module _ (l : Listener) (t : ℕ) (src seg : List ℕ) (iss out-len : ℕ) (firs
           written-new {early} {fresh} {n} {e} {new} {cookie} early-is fresh-is n-is e-is new-is cookie-is =
               let event-is : e ≡ segmentEvent v (block src) seg k = e-is ∙ rw (kind-is, unknown, early-is, n-is) in
               segment-writes l t src seg iss out-len first (sym checks-are ∙ was .0) {e = e} {s = new} event-is
-              (rw (sym event-is, e-is) (new-is ∙ rw (eb, eh) (new-slot l t scan v (heldUntil v t) (block src) (fieldsOf seg) iss seg new early n)))
-              (rw (e-is, scan-is) (new-place l t (scanFor l t (sender src seg)) v 0 b h iss seg new early n)) {fresh = fresh} {cookie = cookie}
-              (fresh-is ∙ rw (sym event-is, e-is) (new-fresh l t scan v 0 (block src) h iss seg new early n))
+              (rw (sym event-is, e-is) (new-is ∙ rw (eb, eh) (new-slot v (heldUntil v t) (block src) (fieldsOf seg) iss early n)))
+              (rw (e-is, scan-is) (new-place l t (scanFor l t (sender src seg)) new early n)) {fresh = fresh} {cookie = cookie}
+              (fresh-is ∙ rw (sym event-is, e-is) (new-fresh v (block src) seg early n))
               (rw eb at cookie-is)
-              (rw e-is (new-writes l t scan v 0 b h iss seg new early n))
+              (rw e-is (new-writes early n))
 
           pub opened-plain : isCounted fast ≡ false → {new : Slot} → new ≡ newSlot b (h .source) (h .seq) iss SynReceived → (cookie : List ℕ)
               → (record { listener = put l t (scan .free) new; event = events.Regular; written = length (synAck new false cookie) } ≡ step l this) × (outputOf l this ≡ synAck new false cookie)
