@@ -9,7 +9,7 @@ use lib.Seq.{take-at, drop-at, drop-drop, length-take-le}
 use borrow.Rule.Slice.PartMut.{putMid}
 use Rattle.segment.specs.declared.write.Outgoing.{Outgoing}
 use Rattle.segment.specs.Checksum.{onesSum, complement}
-use Rattle.segment.specs.Write.{padding, padded, mssBytes, fastOpenBytes, optionBytes, headerBytes}
+use Rattle.segment.specs.Write.{padding, padded, mssBytes, fastOpenBytes, optionBytes, optionLength, headerBytes}
 use Rattle.lists.specs.Bytes.{overwrite}
 use Rattle.lists.proofs.Lent.{lent, lent-out, copied}
 use Rattle.segment.proofs.Total.{sum-append}
@@ -52,6 +52,19 @@ options-fast mss ck =
 pub options-least : (mss : ℕ) (fast : Bool) (ck : List ℕ) → 4 ≤ length (optionBytes mss fast ck)
 options-least mss false ck = omega (arith, options-plain mss ck)
 options-least mss true ck = omega (arith, options-fast mss ck)
+
+-- by the cookie's length, on which alone it depends
+pub length-plain : (n : ℕ) → optionLength false n ≡ 4
+unfolding optionLength
+length-plain n = options-plain 0 (replicate n 0)
+
+pub length-fast : (n : ℕ) → optionLength true n ≡ 6 + n + padding (6 + n)
+unfolding optionLength
+length-fast n = options-fast 0 (replicate n 0) ∙ rw (length-replicate {A = ℕ} n 0)
+
+pub options-length : (mss : ℕ) (fast : Bool) (ck : List ℕ) → length (optionBytes mss fast ck) ≡ optionLength fast (length ck)
+options-length mss false ck = options-plain mss ck ∙ sym (length-plain (length ck))
+options-length mss true ck = options-fast mss ck ∙ sym (length-fast (length ck))
 
 -- an output that is long enough for them is so for each of their parts
 pub cookie-fits : (mss : ℕ) (fast : Bool) (ck : List ℕ) (n : ℕ) → not fast ≡ false → length (optionBytes mss fast ck) ≤ n → 6 + length ck ≤ n

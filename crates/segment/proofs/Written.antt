@@ -11,11 +11,11 @@ use borrow.Author.Tests.{leb-true, eq-eqb, ne-eqb}
 use Rattle.segment.specs.declared.write.Outgoing.{Outgoing}
 use Rattle.segment.specs.Options.{isCookieLength}
 use Rattle.segment.specs.Checksum.{onesSum, complement, oneFamily, pseudoHeader, segmentSum}
-use Rattle.segment.specs.Write.{headerBytes, segmentWith, segmentBytes, optionAllowed, optionBytes, optionsFor, lengthFor, canWrite, written}
+use Rattle.segment.specs.Write.{headerBytes, segmentWith, segmentBytes, optionAllowed, optionBytes, optionLength, optionsFor, lengthFor, canWrite, written}
 use Rattle.lists.specs.Bytes.{overwrite}
 use Rattle.lists.proofs.Bools.{and-true}
 use Rattle.segment.proofs.Cookie.{cookie-length}
-use Rattle.segment.proofs.Writes.{options-plain, options-fast, options-least}
+use Rattle.segment.proofs.Writes.{options-least, length-plain, length-fast, options-length}
 
 -- what `canWrite` tests
 pub record Writable (src dst : List ℕ) (f : Outgoing) (cookie payload : List ℕ) (out-len : ℕ) : Type 0 where
@@ -45,51 +45,52 @@ allowed-most : (n : ℕ) → optionAllowed true n ≡ true → n ≤ 16
 allowed-most zero e = omega arith
 allowed-most (suc n) e = cookie-length (suc n) (allowed-cookie n e) .most
 
+pub length-most : (fast : Bool) (n : ℕ) → optionAllowed fast n ≡ true → optionLength fast n ≤ 24
+length-most false n e = omega (arith, length-plain n)
+length-most true n e = omega (arith, length-fast n, allowed-most n e)
+
 pub options-most : (mss : ℕ) (fast : Bool) (cookie : List ℕ) → optionAllowed fast (length cookie) ≡ true → length (optionBytes mss fast cookie) ≤ 24
-options-most mss false cookie e = omega (arith, options-plain mss cookie)
-options-most mss true cookie e = omega (arith, options-fast mss cookie, allowed-most (length cookie) e)
+options-most mss fast cookie e = omega (arith, options-length mss fast cookie, length-most fast (length cookie) e)
 
 -- The length of the options, or 0: without a Fast Open option, with a request, with a cookie, and with what is none.
-abbrev allowedLength : ℕ → Bool → List ℕ → ℕ
-allowedLength mss fast cookie = cond (optionAllowed fast (length cookie)) (length (optionBytes mss fast cookie)) 0
+abbrev allowedLength : Bool → ℕ → ℕ
+allowedLength fast n = cond (optionAllowed fast n) (optionLength fast n) 0
 
-pub length-plain : (mss : ℕ) (fast : Bool) (cookie : List ℕ) → not fast ≡ true → 4 ≡ allowedLength mss fast cookie
+pub without-option : (fast : Bool) (n : ℕ) → not fast ≡ true → 4 ≡ allowedLength fast n
 unfolding optionAllowed
-length-plain mss true cookie e = absurd (true≢false (sym e))
-length-plain mss false cookie e = sym (options-plain mss cookie)
+without-option true n e = absurd (true≢false (sym e))
+without-option false n e = sym (length-plain n)
 
-pub length-request : (mss : ℕ) (fast : Bool) (cookie : List ℕ) → not fast ≡ false → length cookie ≡ 0 → 8 ≡ allowedLength mss fast cookie
+pub with-request : (fast : Bool) (n : ℕ) → not fast ≡ false → n ≡ 0 → 8 ≡ allowedLength fast n
 unfolding optionAllowed
-length-request mss true cookie e z = rw (eq-eqb (length cookie) 0 z) (omega (arith, options-fast mss cookie))
-length-request mss false cookie e z = absurd (true≢false e)
+with-request true n e z = rw (eq-eqb n 0 z) (omega (arith, length-fast n))
+with-request false n e z = absurd (true≢false e)
 
-pub length-cookie : (mss : ℕ) (fast : Bool) (cookie : List ℕ) → not fast ≡ false → (length cookie ≡ 0 → ⊥) → isCookieLength (length cookie) ≡ true
-    → 4 + (length cookie + 5) / 4 * 4 ≡ allowedLength mss fast cookie
+pub with-cookie : (fast : Bool) (n : ℕ) → not fast ≡ false → (n ≡ 0 → ⊥) → isCookieLength n ≡ true → 4 + (n + 5) / 4 * 4 ≡ allowedLength fast n
 unfolding optionAllowed
-length-cookie mss true cookie e z k = rw (ne-eqb (length cookie) 0 z, k) (omega (arith, options-fast mss cookie))
-length-cookie mss false cookie e z k = absurd (true≢false e)
+with-cookie true n e z k = rw (ne-eqb n 0 z, k) (omega (arith, length-fast n))
+with-cookie false n e z k = absurd (true≢false e)
 
-pub length-none : (mss : ℕ) (fast : Bool) (cookie : List ℕ) → not fast ≡ false → (length cookie ≡ 0 → ⊥) → isCookieLength (length cookie) ≡ false
-    → 0 ≡ allowedLength mss fast cookie
+pub with-no-cookie : (fast : Bool) (n : ℕ) → not fast ≡ false → (n ≡ 0 → ⊥) → isCookieLength n ≡ false → 0 ≡ allowedLength fast n
 unfolding optionAllowed
-length-none mss true cookie e z k = rw (ne-eqb (length cookie) 0 z, k)
-length-none mss false cookie e z k = absurd (true≢false e)
+with-no-cookie true n e z k = rw (ne-eqb n 0 z, k)
+with-no-cookie false n e z k = absurd (true≢false e)
 
 -- what that length tells: 0 that the options are not allowed, any other that they are
-pub not-allowed : (mss : ℕ) (fast : Bool) (cookie : List ℕ) (m : ℕ) → m ≡ allowedLength mss fast cookie → m ≡ 0 → optionAllowed fast (length cookie) ≡ false
+pub not-allowed : (mss : ℕ) (fast : Bool) (cookie : List ℕ) (m : ℕ) → m ≡ allowedLength fast (length cookie) → m ≡ 0 → optionAllowed fast (length cookie) ≡ false
 not-allowed mss fast cookie m e z = go (optionAllowed fast (length cookie)) (sym e ∙ z)
   where
-    go : (b : Bool) → cond b (length (optionBytes mss fast cookie)) 0 ≡ 0 → b ≡ false
-    go true q = absurd (omega (arith, options-least mss fast cookie))
+    go : (b : Bool) → cond b (optionLength fast (length cookie)) 0 ≡ 0 → b ≡ false
+    go true q = absurd (omega (arith, options-least mss fast cookie, options-length mss fast cookie))
     go false q = refl
 
-pub is-allowed : (mss : ℕ) (fast : Bool) (cookie : List ℕ) (m : ℕ) → m ≡ allowedLength mss fast cookie → (m ≡ 0 → ⊥)
+pub is-allowed : (mss : ℕ) (fast : Bool) (cookie : List ℕ) (m : ℕ) → m ≡ allowedLength fast (length cookie) → (m ≡ 0 → ⊥)
     → (optionAllowed fast (length cookie) ≡ true) × (m ≡ length (optionBytes mss fast cookie))
 is-allowed mss fast cookie m e z = go (optionAllowed fast (length cookie)) refl e
   where
-    go : (b : Bool) → optionAllowed fast (length cookie) ≡ b → m ≡ cond b (length (optionBytes mss fast cookie)) 0
+    go : (b : Bool) → optionAllowed fast (length cookie) ≡ b → m ≡ cond b (optionLength fast (length cookie)) 0
         → (optionAllowed fast (length cookie) ≡ true) × (m ≡ length (optionBytes mss fast cookie))
-    go true q k = (q, k)
+    go true q k = (q, k ∙ sym (options-length mss fast cookie))
     go false q k = absurd (z k)
 
 -- the same of a segment's length: 0 that it cannot be written, any other that it can

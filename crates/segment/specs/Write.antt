@@ -38,6 +38,10 @@ unfoldable pub optionBytes : ℕ → Bool → List ℕ → List ℕ
 optionBytes mss false cookie = mssBytes mss
 optionBytes mss true cookie = padded (mssBytes mss ++ fastOpenBytes cookie)
 
+-- how many bytes the area has with a cookie of n bytes, whatever bytes these are and whatever the MSS is
+unfoldable pub optionLength : Bool → ℕ → ℕ
+optionLength fast n = length (optionBytes 0 fast (replicate n 0))
+
 -- the header with a data offset and a checksum; window 65,535, urgent 0
 unfoldable pub headerBytes : Outgoing → ℕ → ℕ → List ℕ
 headerBytes f offset check =

@@ -17,7 +17,7 @@ ghost use mathlib.Core.List.{_++_};
 ghost use Prim.Native.Nat.{_+_, _-_, _≤_, _<_};
 ghost use lib.ListN.{length, take, drop, replicate};
 ghost use Rattle.segment.specs.Checksum.{onesSum, complement, oneFamily, pseudoHeader};
-ghost use Rattle.segment.specs.Write.{padding, optionBytes, headerBytes, optionsFor, lengthFor, optionAllowed, canWrite, written, synAckBytes, openingBytes};
+ghost use Rattle.segment.specs.Write.{padding, optionAllowed, optionBytes, optionLength, headerBytes, optionsFor, lengthFor, canWrite, written, synAckBytes, openingBytes};
 ghost use Rattle.lists.specs.Bytes.{overwrite};
 
 // The most bytes of options and payload.
@@ -152,14 +152,13 @@ fn put_header(out: &mut [u8], src: &[u8], dst: &[u8], f: Outgoing, offset: u8, n
     bytes::copy(&with_checksum, out);
 }
 
-// The length of the options, or 0 where a segment may not have them.
-fn option_length(f: Outgoing, cookie: &[u8]) -> usize
-    ensures { λ r. ⌜ (r ≡ cond (optionAllowed (f .fast) (length (now (cookie .entry)))) (length (optionsFor f (now (cookie .entry)))) 0) × (r ≤ 24) ⌝ }
+// How many bytes of options are written, with a cookie of n bytes where there is a Fast Open option; 0 where a segment may not have them.
+pub fn option_length(fast: bool, n: usize) -> usize
+    ensures { λ r. ⌜ (r ≡ cond (optionAllowed fast n) (optionLength fast n) 0) × (r ≤ 24) ⌝ }
 {
-    if !f.fast {
+    if !fast {
         return 4;
     }
-    let n = cookie.len();
     if n == 0 {
         return 8;
     }
@@ -183,7 +182,7 @@ fn writable_length(
     if !is_one_family(src, dst) {
         return 0;
     }
-    let m = option_length(f, cookie);
+    let m = option_length(f.fast, cookie.len());
     if m == 0 {
         return 0;
     }
