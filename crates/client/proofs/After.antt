@@ -1,5 +1,5 @@
 -- What an answer brings to the cache and to the bans, where a ban goes, and what an opening sends. Assumes nothing.
-use Prim.Native.Nat.{ℕ, _≤_, _<_}
+use Prim.Native.Nat.{ℕ, _-_, _≤_, _<_}
 use mathlib.Core.Path.{_≡_, sym, ap, _∙_}
 use mathlib.Core.Bool.{Bool, true, false, cond, not, _||_}
 use mathlib.Core.List.{List}
@@ -10,14 +10,16 @@ use lib.ListN.{length}
 use borrow.Author.Tests.{eq-eqb, ne-eqb, lt-ltb, le-ltb}
 use Rattle.segment.specs.Header.{optionArea}
 use Rattle.segment.specs.Options.{isCookieLength, cookieBytes, firstMss}
+use Rattle.segment.specs.Write.{optionAllowed, optionLength}
 use Rattle.segment.specs.declared.options.Mss.{Mss}
 use Rattle.segment.specs.declared.options.Options.{Options}
 use Rattle.lists.proofs.Bools.{chosen}
 use Rattle.segment.proofs.Cookie.{cookie-length}
+use Rattle.segment.proofs.Exchange.{allowed-request, allowed-found}
 use Rattle.endpoint.specs.Address.{block, sameName}
 use Rattle.endpoint.specs.declared.address.Family.{Family}
 use Rattle.endpoint.specs.declared.address.Family.the-variants.{V4, V6}
-use Rattle.client.specs.Cache.{entryFor, cookieLength, mostData, dataRoom, learnedFrom, remembered}
+use Rattle.client.specs.Cache.{entryFor, cookieLength, mostData, mssFor, dataRoom, learnedFrom, remembered}
 use Rattle.client.specs.Bans.{isLive, isBan, banPlace, freePlace, endsFirst, placeFor, addBan, withBans}
 use Rattle.client.specs.Step.{sentWith, optionsIn, cookieIn, mssIn, isGiven, cacheAfter, isUnacknowledged, bansAfter}
 use Rattle.client.specs.declared.bans.Ban.{Ban}
@@ -117,16 +119,41 @@ brought-most seg = omega (arith, cookie-sized seg, length-most (length (cookieIn
 pub cookie-most : (e : Entry) → cookieLength e ≤ 16
 cookie-most e = length-most (e .len)
 
+-- and may stand in a Fast Open option, whatever is stored
+pub length-allowed : (fast : Bool) (e : Entry) → optionAllowed fast (cookieLength e) ≡ true
+length-allowed fast e =
+    chosen (λ n. optionAllowed fast n ≡ true) (isCookieLength (e .len)) _ _
+    (λ q. allowed-found fast (e .len) 0 (e .len) (record { fits = omega arith; size = cookie-length (e .len) q }))
+    (λ _. allowed-request fast)
+
 -- What is sent: no more data than was offered, and no more than 1,460 bytes
 
 data-most : (f : Family) → mostData f ≤ 1460
 data-most V4 = omega arith
 data-most V6 = omega arith
 
+room-most : (f : Family) (e : Entry) → dataRoom f e ≤ 1460
+unfolding dataRoom
+room-most f e = omega (arith, data-most f)
+
 pub sent-most : (f : Family) (banned : Bool) (e : Entry) (offered : ℕ) → (sentWith f banned e offered ≤ offered) × (sentWith f banned e offered ≤ 1460)
 sent-most f banned e offered =
     chosen (λ n. (n ≤ offered) × (n ≤ 1460)) (banned || eqb (cookieLength e) 0) _ _
-    (λ _. (omega arith, omega arith)) (λ _. (omega arith, omega (arith, data-most f)))
+    (λ _. (omega arith, omega arith)) (λ _. (omega arith, omega (arith, room-most f e)))
+
+-- what the options leave of the MSS, in code
+module _ (f : Family) (e : Entry) {mss len options : ℕ} (em : mss ≡ mssFor f e) (el : len ≡ cookieLength e)
+    (eo : options ≡ cond (optionAllowed true len) (optionLength true len) 0) where
+  options-are : options ≡ optionLength true (cookieLength e)
+  options-are = eo ∙ rw (el, length-allowed true e)
+
+  pub room-none : mss < options → 0 ≡ dataRoom f e
+  unfolding dataRoom
+  room-none h = omega (arith, em, options-are)
+
+  pub room-left : mss - options ≡ dataRoom f e
+  unfolding dataRoom
+  room-left = rw (em, options-are)
 
 module _ (f : Family) (e : Entry) (offered : ℕ) {banned : Bool} (free : banned ≡ false) {len : ℕ} (el : len ≡ cookieLength e) where
   pub sent-none : len ≡ 0 → 0 ≡ sentWith f banned e offered

@@ -7,12 +7,9 @@ use native.Mathlib.Omega.{arith}
 use lib.ListN.{length, take}
 use lib.Seq.{length-take-le}
 use borrow.Author.Tests.{ltb-false, not-false}
-use Rattle.segment.specs.Options.{isCookieLength}
 use Rattle.segment.specs.Write.{optionAllowed, optionBytes, canWrite, openingFields}
 use Rattle.segment.specs.declared.refusal.Check.the-variants.{Clear}
-use Rattle.lists.proofs.Bools.{chosen}
-use Rattle.segment.proofs.Cookie.{cookie-length}
-use Rattle.segment.proofs.Exchange.{allowed-request, allowed-found, opening-can, opening-length}
+use Rattle.segment.proofs.Exchange.{opening-can, opening-length}
 use Rattle.endpoint.specs.Address.{size}
 use Rattle.endpoint.proofs.Blocks.{one-family}
 use Rattle.client.specs.Cache.{cookieLength, cookieOf}
@@ -23,16 +20,13 @@ use Rattle.client.specs.declared.outcome.ActiveOpen.{ActiveOpen}
 use Rattle.client.specs.declared.cache.Entry.{Entry}
 use Rattle.client.specs.declared.state.Memory.{Memory}
 use Rattle.client.proofs.Step.{step-done}
-use Rattle.client.proofs.After.{cookie-most, sent-most}
+use Rattle.client.proofs.After.{cookie-most, length-allowed, sent-most}
 use Rattle.client.proofs.Answer.{clear-passed}
 
 -- a stored cookie may stand in a Fast Open option
 cookie-allowed : (fast : Bool) (e : Entry) → length (e .cookie) ≡ 16 → optionAllowed fast (length (cookieOf e)) ≡ true
 cookie-allowed fast e h =
-    rw (length-take-le (cookieLength e) (e .cookie) (omega (arith, cookie-most e)))
-    (chosen (λ n. optionAllowed fast n ≡ true) (isCookieLength (e .len)) _ _
-    (λ q. allowed-found fast (e .len) 0 (e .len) (record { fits = omega arith; size = cookie-length (e .len) q }))
-    (λ _. allowed-request fast))
+    rw (length-take-le (cookieLength e) (e .cookie) (omega (arith, cookie-most e))) (length-allowed fast e)
 
 module _ (m : Memory) (t : ℕ) (own server : List ℕ) (o : ActiveOpen) (offered : List ℕ) (out-len : ℕ) where
   abbrev banned : Bool

@@ -1,11 +1,12 @@
--- Document 01, "Client": what is stored for a server address, how much data goes with its cookie, and the order of the stored addresses.
+-- Document 01, "Client", and document 02, Item 2: what is stored for a server address, how much data goes with its cookie, and the order of the stored addresses.
 -- Assumes nothing.
-use Prim.Native.Nat.{ℕ, min}
+use Prim.Native.Nat.{ℕ, _-_, min}
 use mathlib.Core.List.{List, _∷_}
 use mathlib.Core.Bool.{Bool, true, false, cond, _&&_}
 use lib.Dec.{eqb}
 use lib.ListN.{length, take, getD, replicate}
 use Rattle.segment.specs.Options.{isCookieLength, firstMss}
+use Rattle.segment.specs.Write.{optionLength}
 use Rattle.segment.specs.declared.options.Mss.{Mss}
 use Rattle.segment.specs.declared.options.Mss.the-variants.{NotGiven, Given}
 use Rattle.lists.specs.Bytes.{sameBytes}
@@ -58,8 +59,13 @@ abbrev pub mssOr : ℕ → Mss → ℕ
 mssOr default NotGiven = default
 mssOr default (Given v) = v
 
-abbrev pub dataRoom : Family → Entry → ℕ
-dataRoom f e = min (mssOr (defaultMss f) (e .mss)) (mostData f)
+-- what data and options may have together
+abbrev pub mssFor : Family → Entry → ℕ
+mssFor f e = min (mssOr (defaultMss f) (e .mss)) (mostData f)
+
+-- what the options leave of it; none where they are longer
+unfoldable pub dataRoom : Family → Entry → ℕ
+dataRoom f e = mssFor f e - optionLength true (cookieLength e)
 
 -- What is stored next
 

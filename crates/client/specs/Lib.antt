@@ -1,8 +1,9 @@
 -- The client's memory, as document 01 defines it. In reading order: the cookie cache; the bans; the calls and what an event is in 01's words; the refusals; the call itself;
--- and what holds over every list of calls, by a record of them.
+-- the room that an opening leaves for its options; and what holds over every list of calls, by a record of them.
 pub mod Cache
 pub mod Bans
 pub mod Call
 pub mod Refusals
 pub mod Step
+pub mod Room
 pub mod History

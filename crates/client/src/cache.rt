@@ -7,10 +7,11 @@ use endpoint::address::same_block;
 use segment::options::Mss;
 use segment::options::first_mss;
 use segment::options::is_cookie_length;
+use segment::write::option_length;
 ghost use mathlib.Core.Path.{_≡_};
 ghost use Prim.Native.Nat.{_≤_};
 ghost use lib.ListN.{length};
-ghost use Rattle.client.specs.Cache.{unusedEntry, isFor, placeOf, entryFor, cookieLength, defaultMss, mostData, mssOr, dataRoom, learnedFrom, remembered, withCache};
+ghost use Rattle.client.specs.Cache.{unusedEntry, isFor, placeOf, entryFor, cookieLength, defaultMss, mostData, mssOr, mssFor, dataRoom, learnedFrom, remembered, withCache};
 
 // What is stored for a server address, by its block: a cookie, of which the first `len` bytes count, and a maximum segment size if one was received.
 pub struct Entry {
@@ -104,14 +105,26 @@ fn mss_or(default: u32, mss: Mss) -> u32
     }
 }
 
-// How many bytes of data may go with a stored cookie.
-pub(crate) fn data_room(f: Family, e: Entry) -> u32
-    ensures { λ r. ⌜ r ≡ dataRoom f e ⌝ }
+// The MSS of a server, stored or by default, and no more than is ever sent.
+fn mss_for(f: Family, e: Entry) -> u32
+    ensures { λ r. ⌜ r ≡ mssFor f e ⌝ }
 {
     let mss = e.mss;
     let size = mss_or(default_mss(f), mss);
     let most = most_data(f);
     if size < most { size } else { most }
+}
+
+// How many bytes of data may go with a stored cookie: what the options leave of the MSS.
+pub(crate) fn data_room(f: Family, e: Entry) -> usize
+    ensures { λ r. ⌜ r ≡ dataRoom f e ⌝ }
+{
+    let mss = mss_for(f, e) as usize;
+    let options = option_length(true, cookie_length(e));
+    if mss < options {
+        return 0;
+    }
+    mss - options
 }
 
 // What is stored after an answer: its cookie, if that is not empty, and its segment size, if there is one, replace the old ones.

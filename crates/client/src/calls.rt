@@ -111,7 +111,7 @@ fn sent_with(family: Family, banned: bool, e: Entry, offered: usize) -> usize
     if cookie_length(e) == 0 {
         return 0;
     }
-    let most = data_room(family, e) as usize;
+    let most = data_room(family, e);
     if offered < most { offered } else { most }
 }
 

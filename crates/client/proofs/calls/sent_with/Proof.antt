@@ -33,6 +33,4 @@ returns-4 c =
 
 pub sent-with-spec : {M : Type 1} → statement M
 sent-with-spec =
-    tie.close
-    (tie.spec
-    returns (λ c κs. search needs) returns-2 (λ c κs. search needs) (λ c. search needs) returns-3 returns-4)
+    tie.close (tie.spec returns (λ c κs. search needs) returns-2 (λ c κs. search needs) returns-3 returns-4)
