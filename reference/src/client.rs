@@ -94,14 +94,14 @@ impl Client {
         let mut options = wire::mss_option(mss as u16).to_vec();
         let mut sent: &[u8] = &[];
         if !memory.is_banned(attempt.server, attempt.server_port, time) {
-            let server = memory.servers.iter().find(|s| s.address == attempt.server);
-            let cookie = server.map_or(&[][..], |s| &s.cookie);
+            let (cookie, size) = memory.known(attempt.server).unwrap_or_default();
             options.push(wire::FAST_OPEN);
             options.push(2 + cookie.len() as u8);
             options.extend_from_slice(cookie);
             options.resize(options.len().next_multiple_of(4), wire::NO_OPERATION);
             if !cookie.is_empty() {
-                sent = &data[..data.len().min(memory.most_data(server.and_then(|s| s.mss)))];
+                let room = size.saturating_sub(options.len());
+                sent = &data[..data.len().min(room)];
             }
         }
 
@@ -183,9 +183,10 @@ impl Memory {
         Ok(())
     }
 
-    fn most_data(&self, seen: Option<u16>) -> usize {
-        let (default, most) = if self.family == 4 { (536, 1460) } else { (1220, 1440) };
-        usize::from(seen.unwrap_or(default)).min(most)
+    /// The size that rules; an opening's options and data go by it together.
+    fn size(&self, seen: Option<u16>) -> usize {
+        let (default, cap) = if self.family == 4 { (536, 1460) } else { (1220, 1440) };
+        usize::from(seen.unwrap_or(default)).min(cap)
     }
 
     fn is_banned(&self, address: &[u8], port: u16, time: u64) -> bool {
@@ -239,6 +240,12 @@ impl Memory {
     /// Server addresses, the least recently stored first.
     pub fn servers(&self) -> impl Iterator<Item = &[u8]> {
         self.servers.iter().map(|server| &server.address[..])
+    }
+
+    /// A server's cookie, and the size that rules an opening to it.
+    pub fn known(&self, address: &[u8]) -> Option<(&[u8], usize)> {
+        let server = self.servers.iter().find(|server| server.address == address)?;
+        Some((&server.cookie, self.size(server.mss)))
     }
 
     pub fn bans(&self) -> impl Iterator<Item = &Ban> {

@@ -372,18 +372,18 @@ impl Caller {
         acknowledged: u32,
     ) -> Result<u32, Refusal> {
         let from = server(n);
-        let mut segment = vec![0; 20];
-        segment.extend_from_slice(options);
-        let header = Header {
-            source_port: 443,
-            destination_port: PORT,
-            sequence: 5,
-            acknowledgement: acknowledged,
-            flags: SYN | ACK,
-        };
-        wire::finish(&mut segment, &header, options.len(), &from, &PEER);
+        let segment = answer(&from, &PEER, options, acknowledged);
         self.client.answer(time, &attempt(&from, 443), sent, &segment)
     }
+}
+
+fn answer(from: &[u8], to: &[u8], options: &[u8], acknowledgement: u32) -> Vec<u8> {
+    let mut segment = vec![0; 20];
+    segment.extend_from_slice(options);
+    let header =
+        Header { source_port: 443, destination_port: PORT, sequence: 5, acknowledgement, flags: SYN | ACK };
+    wire::finish(&mut segment, &header, options.len(), from, to);
+    segment
 }
 
 const BANNED: usize = 24;
@@ -400,13 +400,70 @@ fn cookies_are_used_and_sized() {
     assert_eq!(caller.open(0, 1, 443), WITH_DATA);
     assert_eq!(caller.out[24..36], [34, 10, 3, 3, 3, 3, 3, 3, 3, 3, 1, 1]);
     assert_eq!(caller.out[36..46], [7; 10]);
-    assert_eq!(caller.learn(0, 1, &[2, 4, 0, 4], 0, 0), Ok(0));
+    assert_eq!(caller.learn(0, 1, &[2, 4, 0, 20], 0, 0), Ok(0));
     assert_eq!(caller.open(0, 1, 443), 40, "the stored size rules, the cookie stays");
     assert_eq!(caller.learn(0, 1, &[2, 4, 0, 0], 0, 0), Ok(0));
     assert_eq!(caller.open(0, 1, 443), 36, "a size of nothing was seen");
     assert_eq!(caller.learn(0, 1, &fast_open(&[4; 16]), 0, 0), Ok(0));
     assert_eq!(caller.open(0, 1, 443), 44, "18 bytes and two of padding");
     assert_eq!(caller.open(0, 2, 443), ASKING, "other servers are others");
+}
+
+/// How many bytes go with an opening, after an answer with this size and a cookie of this
+/// length; the cookie goes in any case.
+fn goes(family: usize, size: Option<u16>, cookie: usize, offered: usize) -> usize {
+    let (own, server) = (vec![1; family], vec![2; family]);
+    let attempt = Attempt { own: &own, own_port: PORT, server: &server, server_port: 443, ours: 9 };
+    let cookie = fast_open(&vec![3; cookie]);
+    let mut options = size.map_or(Vec::new(), |size| wire::mss_option(size).to_vec());
+    options.extend_from_slice(&cookie);
+    let mut client = Client::start(family as u64).unwrap();
+    client.answer(0, &attempt, 0, &answer(&server, &own, &options, 10)).unwrap();
+
+    let mut out = [0xa5; CLIENT_OUTPUT];
+    let opened = client.open(0, &attempt, 1460, &vec![7; offered], &mut out).unwrap();
+    let data_at = 24 + cookie.len();
+    assert_eq!(out[20..24], [2, 4, 5, 0xb4]);
+    assert_eq!(out[24..data_at], cookie);
+    assert_eq!(opened.written, data_at + opened.sent);
+    assert!(out[data_at..opened.written].iter().all(|&b| b == 7));
+    assert!(out[opened.written..].iter().all(|&b| b == 0xa5));
+    opened.sent
+}
+
+#[test]
+fn options_come_off_the_data() {
+    for (family, size, room) in [
+        (4, Some(1460), 1444),
+        (4, Some(1461), 1444),
+        (4, Some(u16::MAX), 1444),
+        (4, Some(1459), 1443),
+        (4, Some(536), 520),
+        (4, None, 520),
+        (16, Some(1440), 1424),
+        (16, Some(1441), 1424),
+        (16, Some(1460), 1424),
+        (16, Some(1439), 1423),
+        (16, Some(536), 520),
+        (16, None, 1204),
+    ] {
+        for offered in [0, 1, room - 1, room, room + 1, 1600] {
+            assert_eq!(goes(family, size, 8, offered), offered.min(room), "{family} {size:?} {offered}");
+        }
+    }
+    for (cookie, options) in [(4, 12), (6, 12), (8, 16), (10, 16), (12, 20), (14, 20), (16, 24)] {
+        for family in [4, 16] {
+            let most = if family == 4 { 1460 } else { 1440 };
+            assert_eq!(goes(family, Some(most), cookie, 1600), usize::from(most) - options);
+            // where they don't fit, or just fit, nothing goes
+            for size in 0..=options {
+                assert_eq!(goes(family, Some(size as u16), cookie, 40), 0, "{cookie} {size}");
+            }
+            for room in 1..=3 {
+                assert_eq!(goes(family, Some((options + room) as u16), cookie, 40), room);
+            }
+        }
+    }
 }
 
 #[test]
@@ -578,5 +635,68 @@ fn generated_scripts_cover_everything() {
         }
         assert!(summary.numbers[&0] > 1500 && summary.bad_lines >= 50);
         assert_eq!((summary.changed, summary.strange), (0, 0));
+    }
+}
+
+/// What the openings with a cookie of one length met.
+#[derive(Default)]
+struct Met {
+    below_zero: usize,
+    zero: usize,
+    one: usize,
+    few: usize,
+    filled: usize,
+    cut_by_one: usize,
+    large_filled: usize,
+    large_cut_by_one: usize,
+}
+
+impl Met {
+    fn add(&mut self, room: i64, offered: i64) {
+        self.below_zero += usize::from(room < 0 && offered > 0);
+        self.zero += usize::from(room == 0 && offered > 0);
+        self.one += usize::from(room == 1 && offered > 0);
+        self.few += usize::from((2..=16).contains(&room) && offered > 0);
+        self.filled += usize::from(room > 0 && offered == room);
+        self.cut_by_one += usize::from(room > 0 && offered == room + 1);
+        self.large_filled += usize::from(room > 500 && offered == room);
+        self.large_cut_by_one += usize::from(room > 500 && offered == room + 1);
+    }
+}
+
+#[test]
+fn generated_openings_meet_the_room() {
+    let length = |word: &[u8]| if word == b"-" { 0 } else { word.len() / 2 };
+    let byte = |hex: &str, at: usize| usize::from_str_radix(&hex[2 * at..2 * at + 2], 16).unwrap();
+    for seed in 1..=4 {
+        let mut session = ClientSession::new();
+        let mut met: [Met; 17] = Default::default();
+        for line in generate::client(seed, 3000).split(|&b| b == b'\n') {
+            let Some(printed) = session.line(line) else { continue };
+            let printed: Vec<&str> = printed.split(' ').collect();
+            let words: Vec<&[u8]> = line.split(|&b| b == b' ').collect();
+            if printed[0] != "0" || words[0] != b"open" {
+                continue;
+            }
+            let options = 4 * (byte(printed[3], 12) >> 4) - 20;
+            if options <= 8 {
+                // banned, or asking
+                continue;
+            }
+            let server = std::str::from_utf8(words[4]).unwrap();
+            let server: Vec<u8> = (0..server.len() / 2).map(|at| byte(server, at) as u8).collect();
+            let (cookie, size) = session.client.memory().unwrap().known(&server).unwrap();
+            let (room, offered) = (size as i64 - options as i64, length(words[9]) as i64);
+            assert_eq!(printed[1], offered.min(room.max(0)).to_string());
+            met[cookie.len()].add(room, offered);
+        }
+        for (length, met) in met.iter().enumerate().skip(4).step_by(2) {
+            let least = met.below_zero.min(met.zero).min(met.one).min(met.few);
+            assert!(least >= 1, "seed {seed} cookie {length}");
+        }
+        let all = |count: fn(&Met) -> usize| met.iter().map(count).sum::<usize>();
+        assert!(all(|met| met.below_zero) >= 40 && all(|met| met.zero) >= 15, "seed {seed}");
+        assert!(all(|met| met.filled) >= 20 && all(|met| met.cut_by_one) >= 20, "seed {seed}");
+        assert!(all(|met| met.large_filled) >= 3 && all(|met| met.large_cut_by_one) >= 3, "seed {seed}");
     }
 }

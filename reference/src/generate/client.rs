@@ -2,10 +2,10 @@
 
 use super::line::Line;
 use super::segment::{area_with, noise, wild_area, Plan, Sum};
-use super::Script;
+use super::{Rng, Script};
 use crate::client::BAN_MS;
 use crate::script::ClientSession;
-use crate::wire::{self, ACK, FIN, LAST_TIME, RST, SYN};
+use crate::wire::{self, Header, ACK, FIN, LAST_TIME, RST, SYN};
 
 pub fn generate(seed: u64, calls: usize) -> Vec<u8> {
     let mut maker = Maker::new(seed);
@@ -22,8 +22,8 @@ struct Theme {
     calls: usize,
     servers: usize,
     ports: usize,
-    /// Weights: open, answer, failed, noise, crowd.
-    actions: [u64; 5],
+    /// Weights: open, answer, failed, noise, crowd, rooms.
+    actions: [u64; 6],
     /// Percent of answers that acknowledge none of the data sent.
     ignored: u64,
     damage: u64,
@@ -36,18 +36,32 @@ struct Theme {
 #[rustfmt::skip]
 const THEMES: [Theme; 6] = [
     // few servers, everything
-    Theme { calls: 250, servers: 4, ports: 2, actions: [40, 50, 3, 3, 0], ignored: 8, damage: 20, step: 50_000, ban_ends: 10, near_last_time: false },
+    Theme { calls: 250, servers: 4, ports: 2, actions: [40, 50, 3, 3, 0, 1], ignored: 8, damage: 20, step: 50_000, ban_ends: 10, near_last_time: false },
     // more servers than are remembered
-    Theme { calls: 420, servers: 36, ports: 1, actions: [40, 56, 1, 1, 0], ignored: 1, damage: 12, step: 1000, ban_ends: 2, near_last_time: false },
+    Theme { calls: 420, servers: 36, ports: 1, actions: [40, 56, 1, 1, 0, 1], ignored: 1, damage: 12, step: 1000, ban_ends: 2, near_last_time: false },
     // more bans than are remembered, often in the same millisecond
-    Theme { calls: 320, servers: 9, ports: 5, actions: [120, 80, 60, 3, 9], ignored: 60, damage: 12, step: 1, ban_ends: 0, near_last_time: false },
+    Theme { calls: 320, servers: 9, ports: 5, actions: [120, 80, 60, 3, 9, 3], ignored: 60, damage: 12, step: 1, ban_ends: 0, near_last_time: false },
     // bans that end
-    Theme { calls: 260, servers: 5, ports: 3, actions: [104, 52, 40, 2, 1], ignored: 25, damage: 14, step: 90_000, ban_ends: 35, near_last_time: false },
+    Theme { calls: 260, servers: 5, ports: 3, actions: [104, 52, 40, 2, 1, 2], ignored: 25, damage: 14, step: 90_000, ban_ends: 35, near_last_time: false },
     // hostile
-    Theme { calls: 220, servers: 3, ports: 2, actions: [22, 55, 5, 16, 0], ignored: 10, damage: 50, step: 10_000, ban_ends: 5, near_last_time: false },
+    Theme { calls: 220, servers: 3, ports: 2, actions: [22, 55, 5, 16, 0, 1], ignored: 10, damage: 50, step: 10_000, ban_ends: 5, near_last_time: false },
     // the end of time
-    Theme { calls: 120, servers: 5, ports: 2, actions: [40, 40, 15, 2, 0], ignored: 20, damage: 18, step: 90_000, ban_ends: 10, near_last_time: true },
+    Theme { calls: 120, servers: 5, ports: 2, actions: [40, 40, 15, 2, 0, 1], ignored: 20, damage: 18, step: 90_000, ban_ends: 10, near_last_time: true },
 ];
+
+/// How many option bytes an opening has with a cookie of this length.
+fn option_bytes(cookie: usize) -> usize {
+    (4 + 2 + cookie).next_multiple_of(4)
+}
+
+/// A length at the room, one below or one above, but not 0; any short one where the options
+/// don't fit.
+fn about(rng: &mut Rng, room: i64) -> u64 {
+    if room < 0 {
+        return rng.within(1, 40);
+    }
+    (room + rng.pick(&[-1, 0, 0, 1, 1])).max(1) as u64
+}
 
 struct Maker {
     script: Script<ClientSession>,
@@ -120,7 +134,8 @@ impl Maker {
             1 => self.answer(theme),
             2 => self.failed(theme),
             3 => self.noise(theme),
-            _ => self.crowd(theme),
+            4 => self.crowd(theme),
+            _ => self.rooms(),
         }
     }
 
@@ -204,8 +219,15 @@ impl Maker {
         (self.server(), port)
     }
 
+    /// The room for data in an opening with a cookie; below zero where the options don't fit.
+    fn room(&self, server: &[u8]) -> Option<i64> {
+        let (cookie, size) = self.script.session.client.memory()?.known(server)?;
+        (!cookie.is_empty()).then(|| size as i64 - option_bytes(cookie.len()) as i64)
+    }
+
     fn open(&mut self, theme: &Theme) {
         let (mut server, port) = self.target(theme);
+        let room = self.room(&server);
         let mut own = self.own.clone();
         let mut time = self.time(theme);
         let rng = &mut self.script.rng;
@@ -213,10 +235,14 @@ impl Maker {
         let ours = rng.sequence();
         let mut mss: u32 = rng.pick(&[1460, 536, 537, 1459, 1220]);
         let mut out = rng.pick(&[1504, 1504, 1504, 1505, 2048]);
-        let length = match rng.below(30) {
-            0 | 1 => rng.pick(&[1439, 1440, 1441, 1441, 1459, 1460, 1461, 1600]),
-            2..=4 => rng.pick(&[535, 536, 537, 1219, 1220, 1221]),
-            5..=8 => 0,
+        let near = room.map(|room| about(rng, room));
+        let length = match (rng.below(30), near) {
+            (0 | 1, _) => rng.pick(&[1439, 1440, 1441, 1441, 1459, 1460, 1461, 1600]),
+            (2 | 3, _) => rng.pick(&[535, 536, 537, 1219, 1220, 1221]),
+            (4..=6, Some(near)) => near,
+            (7..=10, _) => 0,
+            // more often where it is short
+            (11..=19, Some(near)) if near <= 40 => near,
             _ => rng.within(1, 40),
         };
         let data = rng.bytes(length as usize);
@@ -255,7 +281,12 @@ impl Maker {
         let mut wanted = Vec::new();
         if rng.percent(45) {
             let any = rng.next() as u16;
-            let mss = rng.pick(&[1460, 1460, 536, 0, 1, 20, 1440, 1441, 1461, 65_535, any]);
+            let mss = if rng.percent(40) {
+                // about the option bytes of an opening
+                rng.pick(&[0, 1, 11, 12, 13, 15, 16, 17, 19, 20, 21, 23, 24, 25, 30, 40])
+            } else {
+                rng.pick(&[1460, 1460, 536, 1440, 1441, 1461, 65_535, any])
+            };
             wanted.push(wire::mss_option(mss).to_vec());
         }
         if rng.percent(65) {
@@ -382,17 +413,62 @@ impl Maker {
             self.script.call(&Line::new("failed").u64(time).bytes(address).u16(*port));
         }
         for (address, port) in names.iter().take(many).step_by(2) {
-            let line = Line::new("open")
+            self.plain_open(time, address, *port, &[1]);
+        }
+    }
+
+    /// An opening in which only the server and the data matter.
+    fn plain_open(&mut self, time: u64, server: &[u8], port: u16, data: &[u8]) {
+        let line = Line::new("open")
+            .u64(time)
+            .bytes(&self.own)
+            .u16(1)
+            .bytes(server)
+            .u16(port)
+            .u32(1)
+            .u32(536)
+            .out(1504)
+            .bytes(data);
+        self.script.call(&line);
+    }
+
+    /// Cookies of every length, each with a size about its option bytes; after each an
+    /// opening with data about the room.
+    fn rooms(&mut self) {
+        let (server, time) = (self.server(), self.clock());
+        // past the ports that get banned
+        let port = self.first_port.wrapping_add(8);
+        for length in [4, 6, 8, 10, 12, 14, 16] {
+            let rng = &mut self.script.rng;
+            let room = rng.pick(&[-8, -1, 0, 0, 1, 1, 2, 9]);
+            let mss = option_bytes(length) as i64 + room;
+            let mut options = wire::mss_option(mss as u16).to_vec();
+            options.extend_from_slice(&[wire::FAST_OPEN, 2 + length as u8]);
+            options.extend(rng.bytes(length));
+            options.resize(option_bytes(length), wire::NO_OPERATION);
+            let mut segment = vec![0; wire::HEADER];
+            segment.extend_from_slice(&options);
+            let header = Header {
+                source_port: port,
+                destination_port: 1,
+                sequence: rng.sequence(),
+                acknowledgement: 2,
+                flags: SYN | ACK,
+            };
+            wire::finish(&mut segment, &header, options.len(), &server, &self.own);
+            let offered = about(rng, room);
+            let data = rng.bytes(offered as usize);
+            let line = Line::new("answer")
                 .u64(time)
                 .bytes(&self.own)
                 .u16(1)
-                .bytes(address)
-                .u16(*port)
+                .bytes(&server)
+                .u16(port)
                 .u32(1)
-                .u32(536)
-                .out(1504)
-                .bytes(&[1]);
+                .u32(0)
+                .bytes(&segment);
             self.script.call(&line);
+            self.plain_open(time, &server, port, &data);
         }
     }
 
