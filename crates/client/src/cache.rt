@@ -120,7 +120,8 @@ pub(crate) fn data_room(f: Family, e: Entry) -> usize
     ensures { λ r. ⌜ r ≡ dataRoom f e ⌝ }
 {
     let mss = mss_for(f, e) as usize;
-    let options = option_length(true, cookie_length(e));
+    let len = cookie_length(e);
+    let options = option_length(true, len);
     if mss < options {
         return 0;
     }
