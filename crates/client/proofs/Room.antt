@@ -8,11 +8,12 @@ use lib.Dec.{eqb}
 use lib.ListN.{length, take}
 use lib.Seq.{length-take-le}
 use Rattle.segment.specs.Options.{isCookieLength}
-use Rattle.segment.specs.Write.{optionLength, optionBytes, segmentBytes, optionsFor, openingFields, openingBytes, written}
+use Rattle.segment.specs.Write.{optionLength, optionBytes, segmentBytes, optionsFor, openingFields}
 use Rattle.segment.specs.declared.refusal.Check.the-variants.{Clear}
 use Rattle.lists.proofs.Bools.{chosen}
 use Rattle.segment.proofs.Writes.{options-length}
 use Rattle.segment.proofs.Written.{length-most, segment-length}
+use Rattle.segment.proofs.Exchange.{opening-whole}
 use Rattle.endpoint.specs.declared.address.Family.{Family}
 use Rattle.endpoint.specs.declared.address.Family.the-variants.{V4, V6}
 use Rattle.client.specs.Cache.{cookieLength, cookieOf, mostData, mssFor, dataRoom}
@@ -77,8 +78,9 @@ module _ (m : Memory) (t : ℕ) (own server : List ℕ) (o : ActiveOpen) (offere
     options-are = options-length (o .mss) (not banned) (cookieOf entry) ∙ rw (length-take-le (cookieLength entry) (entry .cookie) (omega (arith, cookie-most entry)))
 
     whole : outputOf m opening ≡ segmentBytes own server (openingFields (openingFor banned o)) options (take (countOf (step m opening .event)) offered)
-    unfolding openingBytes written
-    whole = output-done m opening clear ∙ rw (opening-ready m t own server o offered out-len h clear, sent-is)
+    whole =
+        let ready = opening-ready m t own server o offered out-len h clear in
+        rw sent-is (output-done m opening clear ∙ opening-whole own server (openingFor banned o) (cookieOf entry) _ out-len ready)
 
     beside : length options ≤ mssFor (m .family) entry → countOf (step m opening .event) + length options ≤ mssFor (m .family) entry
     beside k = rw (sent-is, options-are) (sent-beside (m .family) entry (length offered) banned (omega (arith, k, options-are)))

@@ -1,6 +1,6 @@
 -- The SYN-ACK and the opening, written by one end and read by the other. Assumes nothing.
 use Prim.Native.Nat.{ℕ, _+_, _^_, _<_, _≤_}
-use mathlib.Core.Path.{_≡_, refl, _∙_}
+use mathlib.Core.Path.{_≡_, refl, ap, _∙_}
 use mathlib.Core.Bool.{Bool, true, false}
 use mathlib.Core.List.{List, []}
 use native.Mathlib.Omega.{arith}
@@ -11,7 +11,7 @@ use Rattle.segment.specs.Header.{SYN, ACK, has, kindOf, isSynAck}
 use Rattle.segment.specs.Options.{isCookieLength}
 use Rattle.segment.specs.Checksum.{oneFamily}
 use Rattle.segment.specs.Sequence.{nextAfter, difference, acknowledged}
-use Rattle.segment.specs.Write.{synAckLength, optionAllowed, optionBytes, optionsFor, lengthFor, canWrite, written, synAckFields, synAckBytes, openingFields, openingBytes}
+use Rattle.segment.specs.Write.{synAckLength, optionAllowed, optionBytes, segmentBytes, optionsFor, lengthFor, canWrite, written, synAckFields, synAckBytes, openingFields, openingBytes}
 use Rattle.segment.specs.declared.header.Kind.the-variants.{Syn}
 use Rattle.segment.specs.declared.write.SynAck.{SynAck}
 use Rattle.segment.specs.declared.write.Opening.{Opening}
@@ -86,10 +86,16 @@ opening-can src dst o cookie payload out-len e s p r =
     let m = options-most (o .mss) (o .fast) cookie s in
     can-write src dst (openingFields o) cookie payload out-len e s (omega arith) (omega arith)
 
+-- and its options and payload stand in it whole
+pub opening-whole : (src dst : List ℕ) (o : Opening) (cookie payload : List ℕ) (out-len : ℕ) → canWrite src dst (openingFields o) cookie payload out-len ≡ true
+    → openingBytes src dst o cookie payload out-len ≡ segmentBytes src dst (openingFields o) (optionsFor (openingFields o) cookie) payload
+unfolding openingBytes written
+opening-whole src dst o cookie payload out-len can = rw can
+
 pub opening-length : (src dst : List ℕ) (o : Opening) (cookie payload : List ℕ) (out-len : ℕ) → canWrite src dst (openingFields o) cookie payload out-len ≡ true
     → length (openingBytes src dst o cookie payload out-len) ≡ lengthFor (openingFields o) cookie payload
-unfolding openingBytes written
-opening-length src dst o cookie payload out-len can = rw can (segment-length src dst (openingFields o) (optionsFor (openingFields o) cookie) payload)
+opening-length src dst o cookie payload out-len can =
+    ap length (opening-whole src dst o cookie payload out-len can) ∙ segment-length src dst (openingFields o) (optionsFor (openingFields o) cookie) payload
 
 -- Read by the other end
 
