@@ -10,7 +10,6 @@ use borrow.Author.Tests.{ltb-false, not-false}
 use Rattle.segment.specs.Write.{optionAllowed, optionBytes, canWrite, openingFields}
 use Rattle.segment.specs.declared.refusal.Check.the-variants.{Clear}
 use Rattle.segment.proofs.Exchange.{opening-can, opening-length}
-use Rattle.endpoint.specs.Address.{size}
 use Rattle.endpoint.proofs.Blocks.{one-family}
 use Rattle.client.specs.Cache.{cookieLength, cookieOf}
 use Rattle.client.specs.Call.{connect}
