@@ -94,7 +94,7 @@ impl Client {
         let mut options = wire::mss_option(mss as u16).to_vec();
         let mut sent: &[u8] = &[];
         if !memory.is_banned(attempt.server, attempt.server_port, time) {
-            let (cookie, size) = memory.known(attempt.server).unwrap_or_default();
+            let (cookie, size) = memory.known(attempt.server);
             options.push(wire::FAST_OPEN);
             options.push(2 + cookie.len() as u8);
             options.extend_from_slice(cookie);
@@ -183,7 +183,7 @@ impl Memory {
         Ok(())
     }
 
-    /// The size that rules; an opening's options and data go by it together.
+    /// The MSS seen, or the default, up to the cap: what options and data have together.
     fn size(&self, seen: Option<u16>) -> usize {
         let (default, cap) = if self.family == 4 { (536, 1460) } else { (1220, 1440) };
         usize::from(seen.unwrap_or(default)).min(cap)
@@ -242,10 +242,12 @@ impl Memory {
         self.servers.iter().map(|server| &server.address[..])
     }
 
-    /// A server's cookie, and the size that rules an opening to it.
-    pub fn known(&self, address: &[u8]) -> Option<(&[u8], usize)> {
-        let server = self.servers.iter().find(|server| server.address == address)?;
-        Some((&server.cookie, self.size(server.mss)))
+    /// A server's cookie, empty for none, and what options and data of an opening to it have together.
+    pub fn known(&self, address: &[u8]) -> (&[u8], usize) {
+        match self.servers.iter().find(|server| server.address == address) {
+            Some(server) => (&server.cookie, self.size(server.mss)),
+            None => (&[], self.size(None)),
+        }
     }
 
     pub fn bans(&self) -> impl Iterator<Item = &Ban> {

@@ -685,7 +685,7 @@ fn generated_openings_meet_the_room() {
             }
             let server = std::str::from_utf8(words[4]).unwrap();
             let server: Vec<u8> = (0..server.len() / 2).map(|at| byte(server, at) as u8).collect();
-            let (cookie, size) = session.client.memory().unwrap().known(&server).unwrap();
+            let (cookie, size) = session.client.memory().unwrap().known(&server);
             let (room, offered) = (size as i64 - options as i64, length(words[9]) as i64);
             assert_eq!(printed[1], offered.min(room.max(0)).to_string());
             met[cookie.len()].add(room, offered);

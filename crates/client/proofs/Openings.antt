@@ -1,6 +1,6 @@
 -- An opening that is not refused can be written, and how many bytes it has. Assumes nothing.
 use Prim.Native.Nat.{ℕ, _+_}
-use mathlib.Core.Path.{_≡_, _∙_}
+use mathlib.Core.Path.{_≡_, ap, _∙_}
 use mathlib.Core.Bool.{Bool, true, not}
 use mathlib.Core.List.{List}
 use native.Mathlib.Omega.{arith}
@@ -12,10 +12,11 @@ use Rattle.segment.specs.declared.refusal.Check.the-variants.{Clear}
 use Rattle.segment.proofs.Exchange.{opening-can, opening-length}
 use Rattle.endpoint.proofs.Blocks.{one-family}
 use Rattle.client.specs.Cache.{cookieLength, cookieOf}
-use Rattle.client.specs.Call.{connect}
+use Rattle.client.specs.Call.{connect, countOf}
 use Rattle.client.specs.Refusals.{callCheck}
 use Rattle.client.specs.Step.{sentWith, openingFor, bannedFor, storedFor, step}
 use Rattle.client.specs.declared.outcome.ActiveOpen.{ActiveOpen}
+use Rattle.client.specs.declared.outcome.Outcome.{Outcome}
 use Rattle.client.specs.declared.cache.Entry.{Entry}
 use Rattle.client.specs.declared.state.Memory.{Memory}
 use Rattle.client.proofs.Step.{step-done}
@@ -36,6 +37,10 @@ module _ (m : Memory) (t : ℕ) (own server : List ℕ) (o : ActiveOpen) (offere
 
   abbrev sent : ℕ
   sent = sentWith (m .family) banned entry (length offered)
+
+  -- the count that is told is that of the data
+  pub sent-told : callCheck m (connect t own server o offered out-len) ≡ Clear → countOf (step m (connect t own server o offered out-len) .event) ≡ sent
+  sent-told clear = ap (λ (x : Outcome). countOf (x .event)) (step-done m (connect t own server o offered out-len) clear)
 
   module _ (h : length (entry .cookie) ≡ 16) (clear : callCheck m (connect t own server o offered out-len) ≡ Clear) where
     data-length : length (take sent offered) ≡ sent

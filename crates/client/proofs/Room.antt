@@ -1,6 +1,6 @@
--- The options and the data of an opening fit the server's MSS together. Assumes nothing.
-use Prim.Native.Nat.{ℕ, _+_, _≤_, _<_}
-use mathlib.Core.Path.{_≡_, refl, ap, _∙_}
+-- Options and data of an opening fit the server's MSS together, or no data goes. Assumes nothing.
+use Prim.Native.Nat.{ℕ, _+_, _-_, _≤_}
+use mathlib.Core.Path.{_≡_, refl, _∙_}
 use mathlib.Core.Bool.{Bool, true, false, not}
 use mathlib.Core.List.{List}
 use native.Mathlib.Omega.{arith}
@@ -12,50 +12,32 @@ use Rattle.segment.specs.Write.{optionLength, optionBytes, segmentBytes, option
 use Rattle.segment.specs.declared.refusal.Check.the-variants.{Clear}
 use Rattle.lists.proofs.Bools.{chosen}
 use Rattle.segment.proofs.Writes.{options-length}
-use Rattle.segment.proofs.Written.{length-most, segment-length}
+use Rattle.segment.proofs.Written.{length-most}
 use Rattle.segment.proofs.Exchange.{opening-whole}
 use Rattle.endpoint.specs.declared.address.Family.{Family}
 use Rattle.endpoint.specs.declared.address.Family.the-variants.{V4, V6}
 use Rattle.client.specs.Cache.{cookieLength, cookieOf, mostData, mssFor, dataRoom}
 use Rattle.client.specs.Call.{Call, connect, countOf}
 use Rattle.client.specs.Refusals.{callCheck}
-use Rattle.client.specs.Room.{LeavesRoom, RoomExamples}
+use Rattle.client.specs.Room.{RoomForOptions, RoomExamples}
 use Rattle.client.specs.Step.{sentWith, openingFor, bannedFor, storedFor, step, outputOf}
 use Rattle.client.specs.declared.outcome.ActiveOpen.{ActiveOpen}
-use Rattle.client.specs.declared.outcome.Outcome.{Outcome}
 use Rattle.client.specs.declared.cache.Entry.{Entry}
 use Rattle.client.specs.declared.state.Memory.{Memory}
-use Rattle.client.proofs.After.{cookie-most, length-allowed, sent-most}
-use Rattle.client.proofs.Openings.{opening-ready}
-use Rattle.client.proofs.Step.{step-done, output-done}
+use Rattle.client.proofs.After.{cookie-most, length-allowed}
+use Rattle.client.proofs.Openings.{sent-told, opening-ready, opening-written}
+use Rattle.client.proofs.Step.{output-done}
 
--- the options alone fit what is ever sent
-options-short : (f : Family) → 24 ≤ mostData f
-options-short V4 = omega arith
-options-short V6 = omega arith
+-- what is sent is left by the options
+sent-left : (f : Family) (e : Entry) (offered : ℕ) (banned : Bool) → sentWith f banned e offered ≤ mssFor f e - optionLength (not banned) (cookieLength e)
+unfolding dataRoom
+sent-left f e offered true = omega arith
+sent-left f e offered false = chosen (λ n. n ≤ mssFor f e - optionLength true (cookieLength e)) (eqb (cookieLength e) 0) _ _ (λ _. omega arith) (λ _. omega arith)
 
--- What is sent beside options of this length: both fit the MSS, or nothing is sent
-
-module _ (f : Family) (e : Entry) (offered : ℕ) where
-  abbrev optionsWith : Bool → ℕ
-  optionsWith banned = optionLength (not banned) (cookieLength e)
-
-  sent-beside : (banned : Bool) → optionsWith banned ≤ mssFor f e → sentWith f banned e offered + optionsWith banned ≤ mssFor f e
-  unfolding dataRoom
-  sent-beside true h = omega arith
-  sent-beside false h = chosen (λ n. n + optionsWith false ≤ mssFor f e) (eqb (cookieLength e) 0) _ _ (λ _. omega arith) (λ _. omega arith)
-
-  none-beside : (banned : Bool) → mssFor f e < optionsWith banned → sentWith f banned e offered ≡ 0
-  unfolding dataRoom
-  none-beside true h = refl
-  none-beside false h = chosen (λ n. n ≡ 0) (eqb (cookieLength e) 0) _ _ (λ _. refl) (λ _. omega arith)
-
-  both-most : (banned : Bool) → sentWith f banned e offered + optionsWith banned ≤ mostData f
-  unfolding dataRoom
-  both-most true = omega (arith, options-short f, length-most false (cookieLength e) (length-allowed false e))
-  both-most false =
-      let short = length-most true (cookieLength e) (length-allowed true e) in
-      chosen (λ n. n + optionsWith false ≤ mostData f) (eqb (cookieLength e) 0) _ _ (λ _. omega (arith, options-short f)) (λ _. omega (arith, options-short f))
+-- the longest options are below the cap
+cap-least : (f : Family) → 24 ≤ mostData f
+cap-least V4 = omega arith
+cap-least V6 = omega arith
 
 module _ (m : Memory) (t : ℕ) (own server : List ℕ) (o : ActiveOpen) (offered : List ℕ) (out-len : ℕ) where
   abbrev opening : Call
@@ -70,33 +52,36 @@ module _ (m : Memory) (t : ℕ) (own server : List ℕ) (o : ActiveOpen) (offere
   abbrev options : List ℕ
   options = optionsFor (openingFields (openingFor banned o)) (cookieOf entry)
 
+  abbrev sent : ℕ
+  sent = countOf (step m opening .event)
+
   module _ (h : length (entry .cookie) ≡ 16) (clear : callCheck m opening ≡ Clear) where
-    sent-is : countOf (step m opening .event) ≡ sentWith (m .family) banned entry (length offered)
-    sent-is = ap (λ (x : Outcome). countOf (x .event)) (step-done m opening clear)
+    whole : outputOf m opening ≡ segmentBytes own server (openingFields (openingFor banned o)) options (take sent offered)
+    whole =
+        let ready = opening-ready m t own server o offered out-len h clear in
+        rw (sent-told m t own server o offered out-len clear)
+        (output-done m opening clear ∙ opening-whole own server (openingFor banned o) (cookieOf entry) _ out-len ready)
 
     options-are : length options ≡ optionLength (not banned) (cookieLength entry)
     options-are = options-length (o .mss) (not banned) (cookieOf entry) ∙ rw (length-take-le (cookieLength entry) (entry .cookie) (omega (arith, cookie-most entry)))
 
-    whole : outputOf m opening ≡ segmentBytes own server (openingFields (openingFor banned o)) options (take (countOf (step m opening .event)) offered)
-    whole =
-        let ready = opening-ready m t own server o offered out-len h clear in
-        rw sent-is (output-done m opening clear ∙ opening-whole own server (openingFor banned o) (cookieOf entry) _ out-len ready)
+    left : sent ≤ mssFor (m .family) entry - length options
+    left = omega (arith, sent-told m t own server o offered out-len clear, options-are, sent-left (m .family) entry (length offered) banned)
 
-    beside : length options ≤ mssFor (m .family) entry → countOf (step m opening .event) + length options ≤ mssFor (m .family) entry
-    beside k = rw (sent-is, options-are) (sent-beside (m .family) entry (length offered) banned (omega (arith, k, options-are)))
-
-    none : mssFor (m .family) entry < length options → countOf (step m opening .event) ≡ 0
-    none k = sent-is ∙ none-beside (m .family) entry (length offered) banned (omega (arith, k, options-are))
-
-    most : length (outputOf m opening) ≤ 20 + mostData (m .family)
+    most : step m opening .written ≤ 20 + mostData (m .family)
     most =
-        let sent = countOf (step m opening .event) in
-        let d = length-take-le sent offered (omega (arith, sent-is, sent-most (m .family) banned entry (length offered) .0)) in
-        let n = ap length whole ∙ segment-length own server (openingFields (openingFor banned o)) options (take sent offered) in
-        omega (arith, n, d, sent-is, options-are, both-most (m .family) entry (length offered) banned)
+        let short = length-most (not banned) (cookieLength entry) (length-allowed (not banned) entry) in
+        omega (arith, opening-written m t own server o offered out-len h clear, options-are, short, cap-least (m .family), left, sent-told m t own server o offered out-len clear)
 
-    pub leaves-room : LeavesRoom m t own server o offered out-len
-    leaves-room = record { written = whole; beside = beside; none = none; most = most }
+pub room-for-options : RoomForOptions
+room-for-options m t own server o offered out-len h clear =
+    let left = left m t own server o offered out-len h clear in
+    record {
+      written = whole m t own server o offered out-len h clear;
+      beside = λ k. omega (arith, left);
+      none = λ k. omega (arith, left);
+      most = most m t own server o offered out-len h clear;
+    }
 
 -- The examples, computed
 
@@ -104,13 +89,13 @@ pub room-examples : RoomExamples
 unfolding dataRoom optionLength optionBytes isCookieLength
 room-examples =
     record {
-      options = refl;
       v4-stored = refl;
+      v4-stored-536 = refl;
       v4-default = refl;
-      v4-least = refl;
       v6-stored = refl;
       v6-capped = refl;
       v6-default = refl;
+      shortest-cookie = refl;
       longest-cookie = refl;
       one-left = refl;
       none-left = refl;

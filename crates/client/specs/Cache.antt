@@ -50,7 +50,7 @@ abbrev pub defaultMss : Family → ℕ
 defaultMss V4 = 536
 defaultMss V6 = 1220
 
--- whatever MSS is stored
+-- the cap, whatever MSS is stored
 abbrev pub mostData : Family → ℕ
 mostData V4 = 1460
 mostData V6 = 1440
@@ -59,7 +59,7 @@ abbrev pub mssOr : ℕ → Mss → ℕ
 mssOr default NotGiven = default
 mssOr default (Given v) = v
 
--- what data and options may have together
+-- the MSS, stored or by default, up to the cap: what options and data may have together
 abbrev pub mssFor : Family → Entry → ℕ
 mssFor f e = min (mssOr (defaultMss f) (e .mss)) (mostData f)
 

@@ -105,7 +105,7 @@ fn mss_or(default: u32, mss: Mss) -> u32
     }
 }
 
-// The MSS of a server, stored or by default, and no more than is ever sent.
+// The MSS of a server, stored or by default, up to the cap: what options and data may have together.
 fn mss_for(f: Family, e: Entry) -> u32
     ensures { λ r. ⌜ r ≡ mssFor f e ⌝ }
 {

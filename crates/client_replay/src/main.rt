@@ -13,7 +13,7 @@ use text::reader::read_if_used_up;
 use text::reader::take_next;
 ghost use Prim.Native.Nat.{_-_, _≤_};
 
-// The buffer for an outcome's line: its longest word is an opening of 1,504 bytes, at two digits each.
+// The buffer for an outcome's line: its longest word is an opening of 1,480 bytes, at two digits each.
 const TEXT: usize = 4096;
 
 struct Session {

@@ -34,13 +34,11 @@ use Rattle.protocol.specs.declared.state.Listener.{Listener}
 use Rattle.protocol.proofs.Refusals.{checked-segment}
 use Rattle.protocol.proofs.Cookie.{cookie-eight, issued-right, right-now, right-before, carried-found}
 use Rattle.client.specs.Cache.{cookieLength}
-use Rattle.client.specs.Call.{countOf}
 use Rattle.client.specs.Refusals.{checks}
 use Rattle.client.specs.Step.{sentWith, openingFor, storedFor}
-use Rattle.client.specs.declared.outcome.Outcome.{Outcome}
 use Rattle.client.specs.declared.state.Memory.{Memory}
-use Rattle.client.proofs.Step.{step-done, output-done}
-use Rattle.client.proofs.Openings.{opening-ready}
+use Rattle.client.proofs.Step.{output-done}
+use Rattle.client.proofs.Openings.{sent-told, opening-ready}
 use Rattle.client.proofs.After.{cookie-most, sent-most}
 use Rattle.client.proofs.Answer.{clear-passed, mss-most}
 use Rattle.handshake.specs.Handshake.{Asked, asking, opening, sent, Arrival, arriving, Ends, carriedWith, stored, isBanned, OpeningRead, Listens, Issued, present, previous}
@@ -73,9 +71,8 @@ module _ (m : Memory) (l : Listener) (a : Asked) (e : Ends m l a) where
   abbrev fields : Opening
   fields = openingFor (isBanned m a) (a .ends)
 
-  -- the count that is told is that of the data
   sent-is : sent m a ≡ count
-  sent-is = ap (λ (o : Outcome). countOf (o .event)) (step-done m (asking a) (e .done))
+  sent-is = sent-told m (a .time) (a .own) (a .server) (a .ends) (a .offered) (a .out-len) (e .done)
 
   pub sent-fits : (sent m a ≤ length (a .offered)) × (sent m a ≤ 1460)
   sent-fits = omega (arith, sent-is, sent-most (m .family) (isBanned m a) (storedFor m (a .server)) (length (a .offered)))

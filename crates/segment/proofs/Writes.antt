@@ -2,7 +2,7 @@
 use Prim.Native.Nat.{ℕ, zero, suc, _+_, _-_, _%_, _≤_, _<_}
 use mathlib.Core.Path.{_≡_, refl, ap, sym, _∙_, subst}
 use mathlib.Core.Bool.{Bool, true, false, true≢false, not}
-use mathlib.Core.List.{List, [], _∷_, _++_, append-assoc}
+use mathlib.Core.List.{List, [], _∷_, _++_, map, append-assoc}
 use native.Mathlib.Omega.{arith}
 use lib.ListN.{length, take, drop, replicate, length-append, length-replicate}
 use lib.Seq.{take-at, drop-at, drop-drop, length-take-le}
@@ -49,10 +49,6 @@ options-fast mss ck =
     let n = padding (length (mssBytes mss ++ fastOpenBytes ck)) in
     omega (arith, length-append ck (replicate {A = ℕ} n 1), length-replicate {A = ℕ} n 1)
 
-pub options-least : (mss : ℕ) (fast : Bool) (ck : List ℕ) → 4 ≤ length (optionBytes mss fast ck)
-options-least mss false ck = omega (arith, options-plain mss ck)
-options-least mss true ck = omega (arith, options-fast mss ck)
-
 -- by the cookie's length, on which alone it depends
 pub length-plain : (n : ℕ) → optionLength false n ≡ 4
 unfolding optionLength
@@ -65,6 +61,15 @@ length-fast n = options-fast 0 (replicate n 0) ∙ rw (length-replicate {A = ℕ
 pub options-length : (mss : ℕ) (fast : Bool) (ck : List ℕ) → length (optionBytes mss fast ck) ≡ optionLength fast (length ck)
 options-length mss false ck = options-plain mss ck ∙ sym (length-plain (length ck))
 options-length mss true ck = options-fast mss ck ∙ sym (length-fast (length ck))
+
+pub length-least : (fast : Bool) (n : ℕ) → 4 ≤ optionLength fast n
+length-least false n = omega (arith, length-plain n)
+length-least true n = omega (arith, length-fast n)
+
+-- of a request, and with a cookie of 4, 6, 8, 10, 12, 14 and 16 bytes
+pub option-lengths : map (optionLength true) (0 ∷ 4 ∷ 6 ∷ 8 ∷ 10 ∷ 12 ∷ 14 ∷ 16 ∷ []) ≡ 8 ∷ 12 ∷ 12 ∷ 16 ∷ 16 ∷ 20 ∷ 20 ∷ 24 ∷ []
+unfolding optionLength optionBytes
+option-lengths = refl
 
 -- an output that is long enough for them is so for each of their parts
 pub cookie-fits : (mss : ℕ) (fast : Bool) (ck : List ℕ) (n : ℕ) → not fast ≡ false → length (optionBytes mss fast ck) ≤ n → 6 + length ck ≤ n

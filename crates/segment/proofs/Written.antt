@@ -15,7 +15,7 @@ use Rattle.segment.specs.Write.{headerBytes, segmentWith, segmentBytes, 
 use Rattle.lists.specs.Bytes.{overwrite}
 use Rattle.lists.proofs.Bools.{and-true}
 use Rattle.segment.proofs.Cookie.{cookie-length}
-use Rattle.segment.proofs.Writes.{options-least, length-plain, length-fast, options-length}
+use Rattle.segment.proofs.Writes.{length-plain, length-fast, length-least, options-length}
 
 -- what `canWrite` tests
 pub record Writable (src dst : List ℕ) (f : Outgoing) (cookie payload : List ℕ) (out-len : ℕ) : Type 0 where
@@ -77,11 +77,11 @@ with-no-cookie true n e z k = rw (ne-eqb n 0 z, k)
 with-no-cookie false n e z k = absurd (true≢false e)
 
 -- what that length tells: 0 that the options are not allowed, any other that they are
-pub not-allowed : (mss : ℕ) (fast : Bool) (cookie : List ℕ) (m : ℕ) → m ≡ allowedLength fast (length cookie) → m ≡ 0 → optionAllowed fast (length cookie) ≡ false
-not-allowed mss fast cookie m e z = go (optionAllowed fast (length cookie)) (sym e ∙ z)
+pub not-allowed : (fast : Bool) (n m : ℕ) → m ≡ allowedLength fast n → m ≡ 0 → optionAllowed fast n ≡ false
+not-allowed fast n m e z = go (optionAllowed fast n) (sym e ∙ z)
   where
-    go : (b : Bool) → cond b (optionLength fast (length cookie)) 0 ≡ 0 → b ≡ false
-    go true q = absurd (omega (arith, options-least mss fast cookie, options-length mss fast cookie))
+    go : (b : Bool) → cond b (optionLength fast n) 0 ≡ 0 → b ≡ false
+    go true q = absurd (omega (arith, length-least fast n))
     go false q = refl
 
 pub is-allowed : (mss : ℕ) (fast : Bool) (cookie : List ℕ) (m : ℕ) → m ≡ allowedLength fast (length cookie) → (m ≡ 0 → ⊥)

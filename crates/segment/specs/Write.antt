@@ -38,7 +38,7 @@ unfoldable pub optionBytes : ℕ → Bool → List ℕ → List ℕ
 optionBytes mss false cookie = mssBytes mss
 optionBytes mss true cookie = padded (mssBytes mss ++ fastOpenBytes cookie)
 
--- how many bytes the area has with a cookie of n bytes, whatever bytes these are and whatever the MSS is
+-- how many bytes the area has with a cookie of n bytes: here of zeros, and with MSS 0, but it is the same for all (law `options-length`)
 unfoldable pub optionLength : Bool → ℕ → ℕ
 optionLength fast n = length (optionBytes 0 fast (replicate n 0))
 

@@ -23,7 +23,7 @@ ghost use Rattle.lists.specs.Bytes.{overwrite};
 // The most bytes of options and payload.
 const MOST_BODY: usize = LONGEST_SEGMENT - 20;
 
-// The longest SYN-ACK and the longest opening, in bytes.
+// How many bytes of output a SYN-ACK and an opening ask for.
 pub const LONGEST_SYN_ACK: usize = 36;
 
 pub const LONGEST_OPENING: usize = 1504;

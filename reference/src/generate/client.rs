@@ -221,7 +221,7 @@ impl Maker {
 
     /// The room for data in an opening with a cookie; below zero where the options don't fit.
     fn room(&self, server: &[u8]) -> Option<i64> {
-        let (cookie, size) = self.script.session.client.memory()?.known(server)?;
+        let (cookie, size) = self.script.session.client.memory()?.known(server);
         (!cookie.is_empty()).then(|| size as i64 - option_bytes(cookie.len()) as i64)
     }
 
@@ -413,12 +413,12 @@ impl Maker {
             self.script.call(&Line::new("failed").u64(time).bytes(address).u16(*port));
         }
         for (address, port) in names.iter().take(many).step_by(2) {
-            self.plain_open(time, address, *port, &[1]);
+            self.simple_open(time, address, *port, &[1]);
         }
     }
 
     /// An opening in which only the server and the data matter.
-    fn plain_open(&mut self, time: u64, server: &[u8], port: u16, data: &[u8]) {
+    fn simple_open(&mut self, time: u64, server: &[u8], port: u16, data: &[u8]) {
         let line = Line::new("open")
             .u64(time)
             .bytes(&self.own)
@@ -468,7 +468,7 @@ impl Maker {
                 .u32(0)
                 .bytes(&segment);
             self.script.call(&line);
-            self.plain_open(time, &server, port, &data);
+            self.simple_open(time, &server, port, &data);
         }
     }
 

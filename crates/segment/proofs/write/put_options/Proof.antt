@@ -1,7 +1,7 @@
 -- `segment::write::put_options` meets its contract: four writes, one after the other.
 -- Assumes nothing.
 use borrow.Author.Needs.{needs}
-use Rattle.segment.proofs.Writes.{more, padded-out, options-least, cookie-fits, padding-fits, wrote-plain, wrote-fast, overwrote}
+use Rattle.segment.proofs.Writes.{more, padded-out, length-least, options-length, cookie-fits, padding-fits, wrote-plain, wrote-fast, overwrote}
 use native.Mathlib.Omega.{arith}
 use mathlib.Core.Path.{refl}
 use mathlib.Core.List.{[], _∷_, _++_}
@@ -12,7 +12,9 @@ use Rattle.segment.proofs.write.put_options.Statement.{statement}
 use Rattle.segment.proofs.write.put_options.Tie as tie
 
 append-requires : tie.Need-append-requires
-append-requires c κs = omega (arith, options-least (c .before .before .before .before .args .mss) (c .before .before .before .before .args .fast) (c .before .before .before .before .args .cookie .now))
+append-requires c κs =
+    let a = c .before .before .before .before .args in
+    omega (arith, options-length (a .mss) (a .fast) (a .cookie .now), length-least (a .fast) (length (a .cookie .now)))
 
 returns : tie.Need-returns
 returns c =

@@ -4,6 +4,7 @@ use mathlib.Core.Bool.{and-false}
 use native.Mathlib.Omega.{arith}
 use Prim.Native.Nat.{_≤_, _<_}
 use mathlib.Core.Path.{sym, _∙_}
+use lib.ListN.{length}
 use borrow.Author.Tests.{le-leb, lt-leb, not-true, not-false}
 use Rattle.segment.specs.Write.{lengthFor, canWrite}
 use Rattle.segment.proofs.Written.{not-allowed, is-allowed}
@@ -20,7 +21,7 @@ unfolding canWrite
 returns-2 c =
     let a = c .before .before .before .before .before .before .before .before .args in
     let f = sym (c .before .before .before .is-one-family .ensures) ∙ not-false _ (c .before .before .if1 .left) in
-    rw (f, not-allowed (a .f .mss) (a .f .fast) (a .cookie .now) _ (c .before .option-length .ensures .0) (c .if2 .taken))
+    rw (f, not-allowed (a .f .fast) (length (a .cookie .now)) _ (c .before .option-length .ensures .0) (c .if2 .taken))
 
 returns-3 : tie.Need-returns-3
 unfolding canWrite
