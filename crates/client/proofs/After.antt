@@ -19,7 +19,7 @@ use Rattle.segment.proofs.Exchange.{allowed-request, allowed-found}
 use Rattle.endpoint.specs.Address.{block, sameName}
 use Rattle.endpoint.specs.declared.address.Family.{Family}
 use Rattle.endpoint.specs.declared.address.Family.the-variants.{V4, V6}
-use Rattle.client.specs.Cache.{entryFor, cookieLength, mostData, mssFor, dataRoom, learnedFrom, remembered}
+use Rattle.client.specs.Cache.{entryFor, cookieLength, mssCap, mssFor, dataRoom, learnedFrom, remembered}
 use Rattle.client.specs.Bans.{isLive, isBan, banPlace, freePlace, endsFirst, placeFor, addBan, withBans}
 use Rattle.client.specs.Step.{sentWith, optionsIn, cookieIn, mssIn, isGiven, cacheAfter, isUnacknowledged, bansAfter}
 use Rattle.client.specs.declared.bans.Ban.{Ban}
@@ -128,13 +128,13 @@ length-allowed fast e =
 
 -- What is sent: no more data than was offered, and no more than 1,460 bytes
 
-data-most : (f : Family) → mostData f ≤ 1460
-data-most V4 = omega arith
-data-most V6 = omega arith
+cap-most : (f : Family) → mssCap f ≤ 1460
+cap-most V4 = omega arith
+cap-most V6 = omega arith
 
 room-most : (f : Family) (e : Entry) → dataRoom f e ≤ 1460
 unfolding dataRoom
-room-most f e = omega (arith, data-most f)
+room-most f e = omega (arith, cap-most f)
 
 pub sent-most : (f : Family) (banned : Bool) (e : Entry) (offered : ℕ) → (sentWith f banned e offered ≤ offered) × (sentWith f banned e offered ≤ 1460)
 sent-most f banned e offered =

@@ -16,7 +16,7 @@ use Rattle.segment.proofs.Written.{length-most}
 use Rattle.segment.proofs.Exchange.{opening-whole}
 use Rattle.endpoint.specs.declared.address.Family.{Family}
 use Rattle.endpoint.specs.declared.address.Family.the-variants.{V4, V6}
-use Rattle.client.specs.Cache.{cookieLength, cookieOf, mostData, mssFor, dataRoom}
+use Rattle.client.specs.Cache.{cookieLength, cookieOf, mssCap, mssFor, dataRoom}
 use Rattle.client.specs.Call.{Call, connect, countOf}
 use Rattle.client.specs.Refusals.{callCheck}
 use Rattle.client.specs.Room.{RoomForOptions, RoomExamples}
@@ -35,7 +35,7 @@ sent-left f e offered true = omega arith
 sent-left f e offered false = chosen (λ n. n ≤ mssFor f e - optionLength true (cookieLength e)) (eqb (cookieLength e) 0) _ _ (λ _. omega arith) (λ _. omega arith)
 
 -- the longest options are below the cap
-cap-least : (f : Family) → 24 ≤ mostData f
+cap-least : (f : Family) → 24 ≤ mssCap f
 cap-least V4 = omega arith
 cap-least V6 = omega arith
 
@@ -68,7 +68,7 @@ module _ (m : Memory) (t : ℕ) (own server : List ℕ) (o : ActiveOpen) (offere
     left : sent ≤ mssFor (m .family) entry - length options
     left = omega (arith, sent-told m t own server o offered out-len clear, options-are, sent-left (m .family) entry (length offered) banned)
 
-    most : step m opening .written ≤ 20 + mostData (m .family)
+    most : step m opening .written ≤ 20 + mssCap (m .family)
     most =
         let short = length-most (not banned) (cookieLength entry) (length-allowed (not banned) entry) in
         omega (arith, opening-written m t own server o offered out-len h clear, options-are, short, cap-least (m .family), left, sent-told m t own server o offered out-len clear)

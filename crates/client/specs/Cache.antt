@@ -51,9 +51,9 @@ defaultMss V4 = 536
 defaultMss V6 = 1220
 
 -- the cap, whatever MSS is stored
-abbrev pub mostData : Family → ℕ
-mostData V4 = 1460
-mostData V6 = 1440
+abbrev pub mssCap : Family → ℕ
+mssCap V4 = 1460
+mssCap V6 = 1440
 
 abbrev pub mssOr : ℕ → Mss → ℕ
 mssOr default NotGiven = default
@@ -61,7 +61,7 @@ mssOr default (Given v) = v
 
 -- the MSS, stored or by default, up to the cap: what options and data may have together
 abbrev pub mssFor : Family → Entry → ℕ
-mssFor f e = min (mssOr (defaultMss f) (e .mss)) (mostData f)
+mssFor f e = min (mssOr (defaultMss f) (e .mss)) (mssCap f)
 
 -- what the options leave of it; none where they are longer
 unfoldable pub dataRoom : Family → Entry → ℕ

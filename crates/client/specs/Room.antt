@@ -11,7 +11,7 @@ use Rattle.segment.specs.declared.options.Mss.{Mss}
 use Rattle.segment.specs.declared.options.Mss.the-variants.{NotGiven, Given}
 use Rattle.segment.specs.declared.write.Opening.{Opening}
 use Rattle.endpoint.specs.declared.address.Family.the-variants.{V4, V6}
-use Rattle.client.specs.Cache.{cookieOf, mostData, mssFor}
+use Rattle.client.specs.Cache.{cookieOf, mssCap, mssFor}
 use Rattle.client.specs.Call.{Call, connect, countOf}
 use Rattle.client.specs.Refusals.{callCheck}
 use Rattle.client.specs.Step.{sentWith, openingFor, bannedFor, storedFor, step, outputOf}
@@ -44,7 +44,7 @@ module _ (m : Memory) (t : ℕ) (own server : List ℕ) (o : ActiveOpen) (offere
     -- where they do not, there is no data
     pub none : mss < length options → sent ≡ 0
     -- so no opening is longer than a header and the cap: 1,480 bytes, 1,460 for IPv6
-    pub most : step m opening .written ≤ 20 + mostData (m .family)
+    pub most : step m opening .written ≤ 20 + mssCap (m .family)
 
 -- every opening that is not refused; that 16 bytes are kept for a cookie is so by their type
 abbrev pub RoomForOptions : Type 0

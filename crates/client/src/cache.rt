@@ -11,7 +11,7 @@ use segment::write::option_length;
 ghost use mathlib.Core.Path.{_≡_};
 ghost use Prim.Native.Nat.{_≤_};
 ghost use lib.ListN.{length};
-ghost use Rattle.client.specs.Cache.{unusedEntry, isFor, placeOf, entryFor, cookieLength, defaultMss, mostData, mssOr, mssFor, dataRoom, learnedFrom, remembered, withCache};
+ghost use Rattle.client.specs.Cache.{unusedEntry, isFor, placeOf, entryFor, cookieLength, defaultMss, mssCap, mssOr, mssFor, dataRoom, learnedFrom, remembered, withCache};
 
 // What is stored for a server address, by its block: a cookie, of which the first `len` bytes count, and a maximum segment size if one was received.
 pub struct Entry {
@@ -87,8 +87,8 @@ fn default_mss(f: Family) -> u32
     }
 }
 
-fn most_data(f: Family) -> u32
-    ensures { λ r. ⌜ r ≡ mostData f ⌝ }
+fn mss_cap(f: Family) -> u32
+    ensures { λ r. ⌜ r ≡ mssCap f ⌝ }
 {
     match f {
         Family::V4 => 1460,
@@ -111,7 +111,7 @@ fn mss_for(f: Family, e: Entry) -> u32
 {
     let mss = e.mss;
     let size = mss_or(default_mss(f), mss);
-    let most = most_data(f);
+    let most = mss_cap(f);
     if size < most { size } else { most }
 }
 

@@ -119,7 +119,7 @@ openingFields o =
 unfoldable pub openingBytes : List ℕ → List ℕ → Opening → List ℕ → List ℕ → ℕ → List ℕ
 openingBytes src dst o cookie payload out-len = written src dst (openingFields o) cookie payload out-len
 
--- The output that an opening asks for: a header of 20 bytes, options of 24 with the longest cookie, and 1,460 bytes of data. (None has
--- all of these since the options are taken off the data.)
+-- The output that an opening asks for: a header of 20 bytes, options of 24 with the longest cookie, and 1,460 bytes of data. (The client,
+-- which takes the options off the data, sends none that long.)
 abbrev pub longestOpening : ℕ
 longestOpening = 1504
