@@ -132,14 +132,18 @@ cap-most : (f : Family) → mssCap f ≤ 1460
 cap-most V4 = omega arith
 cap-most V6 = omega arith
 
-room-most : (f : Family) (e : Entry) → dataRoom f e ≤ 1460
+-- it is left by the options
+pub sent-left : (f : Family) (banned : Bool) (e : Entry) (offered : ℕ) → sentWith f banned e offered ≤ mssFor f e - optionLength (not banned) (cookieLength e)
 unfolding dataRoom
-room-most f e = omega (arith, cap-most f)
+sent-left f true e offered = omega arith
+sent-left f false e offered =
+    chosen (λ n. n ≤ mssFor f e - optionLength true (cookieLength e)) (eqb (cookieLength e) 0) _ _ (λ _. omega arith) (λ _. omega arith)
 
 pub sent-most : (f : Family) (banned : Bool) (e : Entry) (offered : ℕ) → (sentWith f banned e offered ≤ offered) × (sentWith f banned e offered ≤ 1460)
-sent-most f banned e offered =
-    chosen (λ n. (n ≤ offered) × (n ≤ 1460)) (banned || eqb (cookieLength e) 0) _ _
-    (λ _. (omega arith, omega arith)) (λ _. (omega arith, omega (arith, room-most f e)))
+sent-most f banned e offered = (
+  chosen (λ n. n ≤ offered) (banned || eqb (cookieLength e) 0) _ _ (λ _. omega arith) (λ _. omega arith),
+  omega (arith, sent-left f banned e offered, cap-most f),
+)
 
 -- what the options leave of the MSS, in code
 module _ (f : Family) (e : Entry) {mss len options : ℕ} (em : mss ≡ mssFor f e) (el : len ≡ cookieLength e)

@@ -20,20 +20,20 @@ use Rattle.client.specs.declared.cache.Entry.{Entry}
 use Rattle.client.specs.declared.state.Memory.{Memory}
 
 module _ (m : Memory) (t : ℕ) (own server : List ℕ) (o : ActiveOpen) (offered : List ℕ) (out-len : ℕ) where
-  abbrev opening : Call
+  abbrev pub opening : Call
   opening = connect t own server o offered out-len
 
   -- the fields and the options that are written, how many bytes of data are sent, and the MSS of the server
-  abbrev fields : Opening
+  abbrev pub fields : Opening
   fields = openingFor (bannedFor m t server o) o
 
-  abbrev options : List ℕ
+  abbrev pub options : List ℕ
   options = optionsFor (openingFields fields) (cookieOf (storedFor m server))
 
-  abbrev sent : ℕ
+  abbrev pub sent : ℕ
   sent = countOf (step m opening .event)
 
-  abbrev mss : ℕ
+  abbrev pub mss : ℕ
   mss = mssFor (m .family) (storedFor m server)
 
   pub record LeavesRoom : Type 0 where
