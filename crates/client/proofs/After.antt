@@ -1,4 +1,4 @@
--- What an answer brings to the cache and to the bans, where a ban goes, and what an opening sends. Assumes nothing.
+-- What an answer brings to the cache, where a ban goes, and what an opening sends. Assumes nothing.
 use Prim.Native.Nat.{ℕ, _-_, _≤_, _<_}
 use mathlib.Core.Path.{_≡_, sym, ap, _∙_}
 use mathlib.Core.Bool.{Bool, true, false, cond, not, _||_}
@@ -20,11 +20,10 @@ use Rattle.endpoint.specs.Address.{block, sameName}
 use Rattle.endpoint.specs.declared.address.Family.{Family}
 use Rattle.endpoint.specs.declared.address.Family.the-variants.{V4, V6}
 use Rattle.client.specs.Cache.{entryFor, cookieLength, mssCap, mssFor, dataRoom, learnedFrom, remembered}
-use Rattle.client.specs.Bans.{isLive, isBan, banPlace, freePlace, endsFirst, placeFor, addBan, withBans}
-use Rattle.client.specs.Step.{sentWith, optionsIn, cookieIn, mssIn, isGiven, cacheAfter, isUnacknowledged, bansAfter}
+use Rattle.client.specs.Bans.{isLive, isBan, banPlace, freePlace, endsFirst, placeFor}
+use Rattle.client.specs.Step.{sentWith, optionsIn, cookieIn, mssIn, isGiven, cacheAfter}
 use Rattle.client.specs.declared.bans.Ban.{Ban}
 use Rattle.client.specs.declared.cache.Entry.{Entry}
-use Rattle.client.specs.declared.state.Memory.{Memory}
 use Rattle.client.proofs.Stores.{cookie-sized}
 
 -- What is stored
@@ -65,20 +64,6 @@ module _ (t : ℕ) (x : Ban) where
     pub is-on : t < x .end → {k : Bool} → k ≡ sameName (x .port) port (x .addr) b → k ≡ isBan t b port x
     unfolding isBan
     is-on h e = rw (lt-ltb _ _ h) e
-
-module _ (m : Memory) (t : ℕ) (b : List ℕ) (port sent count : ℕ) where
-  abbrev Next : Memory
-  Next = withBans m (bansAfter t b port (isUnacknowledged sent count) (m .bans))
-
-  pub no-data : sent ≡ 0 → m ≡ Next
-  no-data e = rw (eq-eqb _ _ e)
-
-  module _ (some : sent ≡ 0 → ⊥) where
-    pub some-acknowledged : (count ≡ 0 → ⊥) → m ≡ Next
-    some-acknowledged k = rw (ne-eqb _ _ some, ne-eqb _ _ k)
-
-    pub none-acknowledged : count ≡ 0 → {next : Memory} → next ≡ withBans m (addBan t b port (m .bans)) → next ≡ Next
-    none-acknowledged k e = rw (ne-eqb _ _ some, eq-eqb _ _ k) e
 
 module _ (t : ℕ) (b : List ℕ) (port : ℕ) (bans : List Ban) {own : ℕ} (eo : own ≡ banPlace t b port bans) where
   abbrev Place : ℕ

@@ -152,15 +152,15 @@ module _ (m : Memory) (t : ℕ) (own server : List ℕ) (a : Attempt) (seg : Lis
     pub answer-time : t ≤ 2 ^ 48
     answer-time = time-most (m .clock) t (every-check theChecks clear .1 .0)
 
-    module _ {b cookie : List ℕ} {mss : Mss} {at known next : Memory} where
+    module _ {b cookie : List ℕ} {mss : Mss} {negative : Bool} {at known next : Memory} where
       pub answer-done : at ≡ moved m t (m .cache) (m .bans) → b ≡ block server → cookie ≡ cookieIn seg → mss ≡ mssIn seg
           → known ≡ withCache at (cacheAfter b cookie mss (at .cache))
-          → next ≡ withBans known (bansAfter t b (a .dest) (isUnacknowledged (a .sent) n) (known .bans))
+          → negative ≡ isUnacknowledged (a .sent) n → next ≡ withBans known (bansAfter t b (a .dest) negative (known .bans))
           → record { memory = next; event = events.Answered n; written = 0 } ≡ step m answering
       unfolding after
-      answer-done et eb ec es ek en =
+      answer-done et eb ec es ek ei en =
           let done = step-done m answering (answer-checked ∙ clear) in
-          rw (en, ek, et, ec, es, eb, was-counted (refusal theChecks) a seg theReply .1) (sym done)
+          rw (en, ek, et, ec, es, eb, ei, was-counted (refusal theChecks) a seg theReply .1) (sym done)
 
 -- Failure
 

@@ -187,18 +187,25 @@ fn learn(m: Memory, b: [u8; 16], cookie: &[u8], mss: Mss) -> Memory
     remember(m, learned(old, b, cookie, mss))
 }
 
-// Bans the server if data was sent and none acknowledged.
-fn ban_if_negative(m: Memory, time: u64, b: [u8; 16], a: Attempt, acknowledged: u32) -> Memory
-    requires { ⌜ time ≤ lastTime ⌝ }
-    ensures { λ r. ⌜ r ≡ withBans m (bansAfter time b (a .dest) (isUnacknowledged (a .sent) acknowledged) (m .bans)) ⌝ }
+// Data was sent and none acknowledged.
+fn is_negative(sent: u32, acknowledged: u32) -> bool
+    ensures { λ r. ⌜ r ≡ isUnacknowledged sent acknowledged ⌝ }
 {
-    if a.sent == 0 {
-        return m;
+    if sent == 0 {
+        return false;
     }
-    if acknowledged != 0 {
-        return m;
+    acknowledged == 0
+}
+
+// Bans the server after a negative answer.
+fn ban_if(m: Memory, time: u64, b: [u8; 16], port: u16, negative: bool) -> Memory
+    requires { ⌜ time ≤ lastTime ⌝ }
+    ensures { λ r. ⌜ r ≡ withBans m (bansAfter time b port negative (m .bans)) ⌝ }
+{
+    if negative {
+        return set_ban(m, time, b, port);
     }
-    set_ban(m, time, b, a.dest)
+    m
 }
 
 // Takes the answer to an attempt. The event has how many bytes of the data sent it acknowledges.
@@ -215,8 +222,9 @@ pub fn answer(m: Memory, time: u64, own: &[u8], server: &[u8], a: Attempt, seg: 
             let fast = options.fast;
             let mss = options.mss;
             let known = learn(next, b, cookie(option_area(seg), fast), mss);
+            let negative = is_negative(a.sent, n);
             Outcome {
-                memory: ban_if_negative(known, time, b, a, n),
+                memory: ban_if(known, time, b, a.dest, negative),
                 event: Event::Answered(n),
                 written: 0,
             }

@@ -37,8 +37,11 @@ area c = c .before
 abbrev brought : tie.After-learn → tie.After-cookie
 brought c = c .before
 
-abbrev learnt : tie.After-ban-if-negative → tie.After-learn
+abbrev learnt : tie.After-is-negative → tie.After-learn
 learnt c = c .before
+
+abbrev judged : tie.After-ban-if → tie.After-is-negative
+judged c = c .before
 
 -- What is known at each
 
@@ -74,9 +77,9 @@ module _ (c : tie.After-cookie) where
 learn-requires : tie.Need-learn-requires
 learn-requires c κs = rw (brings c .0) (brought-most (start (named-at c) .args .seg .now))
 
-ban-if-negative-requires : tie.Need-ban-if-negative-requires
-ban-if-negative-requires c κs =
-    let b = named-at (brought c) in
+ban-if-requires : tie.Need-ban-if-requires
+ban-if-requires c κs =
+    let b = named-at (brought (learnt c)) in
     let a = start b .args in
     answer-time (a .m) (a .time) (a .own .now) (a .server .now) (a .a) (a .seg .now) (acknowledged (counted b))
 
@@ -88,12 +91,13 @@ returns c =
 
 returns-2 : tie.Need-returns-2
 returns-2 c =
-    let l = learnt c in
+    let j = judged c in
+    let l = learnt j in
     let o = brought l in
     let b = named-at o in
     let a = start b .args in
     answer-done (a .m) (a .time) (a .own .now) (a .server .now) (a .a) (a .seg .now) (acknowledged (counted b))
-    (timed (checked (counted b)) .at-time .ensures) (named b) (brings o .0) (brings o .1) (l .learn .ensures) (c .ban-if-negative .ensures)
+    (timed (checked (counted b)) .at-time .ensures) (named b) (brings o .0) (brings o .1) (l .learn .ensures) (j .is-negative .ensures) (c .ban-if .ensures)
 
 pub answer-spec : {M : Type 1} → statement M
 answer-spec =
@@ -101,4 +105,4 @@ answer-spec =
     (tie.spec
     (λ c κs. search needs) (λ c κs. search needs) (λ c. search needs) (λ c κs. search needs) (λ c. search needs)
     (λ c κs. search needs) (λ c κs. search needs) (λ c κs. search needs) (λ c κs. search needs) learn-requires
-    ban-if-negative-requires returns returns-2)
+    (λ c κs. search needs) ban-if-requires returns returns-2)
