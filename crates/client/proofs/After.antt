@@ -1,6 +1,6 @@
 -- What an answer brings to the cache, where a ban goes, and what an opening sends. Assumes nothing.
 use Prim.Native.Nat.{ℕ, _-_, _≤_, _<_}
-use mathlib.Core.Path.{_≡_, sym, ap, _∙_}
+use mathlib.Core.Path.{_≡_, refl, sym, ap, _∙_}
 use mathlib.Core.Bool.{Bool, true, false, cond, not, _||_}
 use mathlib.Core.List.{List}
 use native.Mathlib.Nat.{min-eq-left, min-eq-right}
@@ -9,19 +9,21 @@ use lib.Dec.{eqb}
 use lib.ListN.{length}
 use borrow.Author.Tests.{eq-eqb, ne-eqb, lt-ltb, le-ltb}
 use Rattle.segment.specs.Header.{optionArea}
-use Rattle.segment.specs.Options.{isCookieLength, cookieBytes, firstMss}
+use Rattle.segment.specs.Options.{isCookieLength, cookieBytes, firstMss, optionsOf}
 use Rattle.segment.specs.Write.{optionAllowed, optionLength}
+use Rattle.segment.specs.declared.options.FastOpenOption.{FastOpenOption}
+use Rattle.segment.specs.declared.options.FastOpenOption.the-variants.{Absent, Request, Cookie}
 use Rattle.segment.specs.declared.options.Mss.{Mss}
 use Rattle.segment.specs.declared.options.Options.{Options}
 use Rattle.lists.proofs.Bools.{chosen}
-use Rattle.segment.proofs.Cookie.{cookie-length}
+use Rattle.segment.proofs.Cookie.{AllInside, cookie-length, cookie-bytes, inside-segment}
 use Rattle.segment.proofs.Exchange.{allowed-request, allowed-found}
 use Rattle.endpoint.specs.Address.{block, sameName}
 use Rattle.endpoint.specs.declared.address.Family.{Family}
 use Rattle.endpoint.specs.declared.address.Family.the-variants.{V4, V6}
 use Rattle.client.specs.Cache.{entryFor, cookieLength, mssCap, mssFor, dataRoom, learnedFrom, remembered}
 use Rattle.client.specs.Bans.{isLive, isBan, banPlace, freePlace, endsFirst, placeFor}
-use Rattle.client.specs.Step.{sentWith, optionsIn, cookieIn, mssIn, isGiven, cacheAfter}
+use Rattle.client.specs.Step.{sentWith, optionsIn, cookieIn, mssIn, isGiven, cacheAfter, hasCookie}
 use Rattle.client.specs.declared.bans.Ban.{Ban}
 use Rattle.client.specs.declared.cache.Entry.{Entry}
 use Rattle.client.proofs.Stores.{cookie-sized}
@@ -96,6 +98,15 @@ length-most n = chosen (λ k. k ≤ 16) (isCookieLength n) _ _ (λ q. cookie-len
 pub brought-is : (seg : List ℕ) {o : Options} {area cookie : List ℕ} → o ≡ optionsIn seg → area ≡ optionArea seg → cookie ≡ cookieBytes (o .fast) area
     → (cookie ≡ cookieIn seg) × (o .mss ≡ mssIn seg)
 brought-is seg eo ea ec = (rw (ec, ea, eo), rw eo)
+
+-- no cookie is brought, by the option that counts
+pub cookie-told : (seg : List ℕ) → not (hasCookie (optionsOf seg .fast)) ≡ eqb (length (cookieIn seg)) 0
+cookie-told seg = go (optionsOf seg .fast) (inside-segment seg)
+  where
+    go : (o : FastOpenOption) → AllInside (length (optionArea seg)) o → not (hasCookie o) ≡ eqb (length (cookieBytes o (optionArea seg))) 0
+    go Absent h = refl
+    go Request h = refl
+    go (Cookie at len) h = rw (cookie-bytes (optionArea seg) at len h) (sym (ne-eqb len 0 (λ z. omega (arith, h .size .least))))
 
 -- the cookie that an answer brings, and the one that is stored
 pub brought-most : (seg : List ℕ) → length (cookieIn seg) ≤ 16

@@ -1,13 +1,14 @@
 -- Laws for a crate above: a call that is clear, a header that answers an attempt, and what an answer stores. Assumes nothing.
 use Prim.Native.Nat.{ℕ, _≤_}
 use mathlib.Core.Path.{_≡_, refl}
-use mathlib.Core.Bool.{true, false, not, or-true}
+use mathlib.Core.Bool.{true, false, not, or-true, and-false}
 use mathlib.Core.List.{List}
 use native.Mathlib.Omega.{arith}
 use lib.Dec.{leb, eqb}
 use lib.ListN.{length}
 use borrow.Author.Tests.{leb-true, eq-eqb, ne-eqb}
 use Rattle.segment.specs.Refusal.{refusal}
+use Rattle.segment.specs.Header.{fieldsOf}
 use Rattle.segment.specs.Options.{isCookieLength}
 use Rattle.segment.specs.declared.refusal.Check.the-variants.{Clear}
 use Rattle.segment.specs.declared.header.Header.{Header}
@@ -21,8 +22,8 @@ use Rattle.lists.proofs.SameBytes.{same-bytes-refl}
 use Rattle.endpoint.proofs.Names.{short}
 use Rattle.client.specs.Cache.{isFor, entryFor, cookieOf}
 use Rattle.client.specs.Call.{Call, answer}
-use Rattle.client.specs.Refusals.{isMss, isBetween, checks, callCheck}
-use Rattle.client.specs.Step.{cookieIn, mssIn, cacheAfter, storedFor, after}
+use Rattle.client.specs.Refusals.{isMss, isBetween, countIn, checks, callCheck}
+use Rattle.client.specs.Step.{cookieIn, mssIn, cacheAfter, isUnacknowledged, storedFor, after}
 use Rattle.client.specs.declared.outcome.Attempt.{Attempt}
 use Rattle.client.specs.declared.cache.Entry.{Entry}
 use Rattle.client.specs.declared.state.Memory.{Memory}
@@ -47,20 +48,28 @@ pub between : (a : Attempt) (h : Header) → h .source ≡ a .dest → h .dest �
 unfolding isBetween
 between a h s d = rw (eq-eqb (h .source) (a .dest) s, eq-eqb (h .dest) (a .source) d)
 
+-- a cookie of a counted length is not empty
+cookie-some : (c : List ℕ) → isCookieLength (length c) ≡ true → eqb (length c) 0 ≡ false
+cookie-some c e = ne-eqb (length c) 0 (λ z. omega (arith, cookie-length (length c) e .least))
+
 -- a cookie that comes is the one that is stored then for the address
 cookie-learned : (b c : List ℕ) (mss : Mss) (es : List Entry) → isCookieLength (length c) ≡ true → cookieOf (entryFor b (cacheAfter b c mss es)) ≡ c
 unfolding isFor
 cookie-learned b c mss es e =
-    let n = cookie-length (length c) e in
-    let some : eqb (length c) 0 ≡ false = ne-eqb (length c) 0 (λ z. omega (arith, n .least)) in
-    rw (some, same-bytes-refl b, e) (short (length c) c refl)
+    rw (cookie-some c e, same-bytes-refl b, e) (short (length c) c refl)
 
 pub cookie-stored : (m : Memory) (t : ℕ) (own server : List ℕ) (a : Attempt) (seg : List ℕ) → isCookieLength (length (cookieIn seg)) ≡ true
     → cookieOf (storedFor (after m (answer t own server a seg)) server) ≡ cookieIn seg
 unfolding after
 cookie-stored m t own server a seg e = cookie-learned (block server) (cookieIn seg) (mssIn seg) (m .cache) e
 
--- and so is an MSS
+-- and no ban is set, whatever is acknowledged
+pub cookie-no-ban : (m : Memory) (t : ℕ) (own server : List ℕ) (a : Attempt) (seg : List ℕ) → isCookieLength (length (cookieIn seg)) ≡ true
+    → after m (answer t own server a seg) .bans ≡ m .bans
+unfolding after
+cookie-no-ban m t own server a seg e = rw (cookie-some (cookieIn seg) e, and-false (isUnacknowledged (a .sent) (countIn a (fieldsOf seg))))
+
+-- an MSS that comes is stored, too
 mss-learned : (b c : List ℕ) (v : ℕ) (es : List Entry) → entryFor b (cacheAfter b c (Given v) es) .mss ≡ Given v
 unfolding isFor
 mss-learned b c v es = rw (or-true (not (eqb (length c) 0)), same-bytes-refl b)

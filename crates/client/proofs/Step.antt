@@ -1,7 +1,7 @@
 -- The outcome of the start and of each call, refused and done, from what the checks come to. Assumes nothing.
 use Prim.Native.Nat.{ℕ, _≤_, _^_}
 use mathlib.Core.Path.{_≡_, refl, sym, ap, _∙_}
-use mathlib.Core.Bool.{Bool, true, false}
+use mathlib.Core.Bool.{Bool, true, false, not, _&&_}
 use mathlib.Core.List.{List, [], _++_}
 use native.Mathlib.Omega.{arith}
 use lib.ListN.{length, take}
@@ -11,6 +11,7 @@ use Rattle.segment.specs.Header.{fieldsOf}
 use Rattle.lists.specs.Bytes.{overwrite}
 use Rattle.segment.specs.Write.{openingBytes}
 use Rattle.segment.specs.declared.options.Mss.{Mss}
+use Rattle.segment.specs.declared.options.Options.{Options}
 use Rattle.segment.specs.declared.refusal.Refusal.{Refusal}
 use Rattle.segment.specs.declared.refusal.Refusal.the-variants.{Address}
 use Rattle.segment.specs.declared.refusal.Check.{Check}
@@ -25,7 +26,7 @@ use Rattle.client.specs.Cache.{cookieLength, entryFor, withCache}
 use Rattle.client.specs.Bans.{isBanned, addBan, withBans}
 use Rattle.client.specs.Call.{Call, connect, answer, failed}
 use Rattle.client.specs.Refusals.{countIn, openChecks, answerChecks, callCheck, replyFrom}
-use Rattle.client.specs.Step.{blank, neverStarted, startOf, openingFor, sentWith, cookieIn, mssIn, cacheAfter, isUnacknowledged, bansAfter, moved, after, doneEvent, doneOutput, outcomeOf, step, outputIf, outputOf}
+use Rattle.client.specs.Step.{blank, neverStarted, startOf, openingFor, sentWith, cookieIn, mssIn, cacheAfter, optionsIn, isUnacknowledged, isNegative, hasCookie, bansAfter, moved, after, doneEvent, doneOutput, outcomeOf, step, outputIf, outputOf}
 use Rattle.client.specs.declared.outcome.ActiveOpen.{ActiveOpen}
 use Rattle.client.specs.declared.outcome.Attempt.{Attempt}
 use Rattle.client.specs.declared.outcome.Event.the-variants as events
@@ -35,6 +36,7 @@ use Rattle.client.specs.declared.checks.Reply.{Reply}
 use Rattle.client.specs.declared.checks.Reply.the-variants.{Dropped, Acknowledged}
 use Rattle.client.specs.declared.state.Memory.{Memory}
 use Rattle.client.proofs.Answer.{mss-most}
+use Rattle.client.proofs.After.{cookie-told}
 
 abbrev pub refusedWith : Memory → Refusal → Outcome
 refusedWith m r = record { memory = m; event = events.Refused r; written = 0 }
@@ -152,10 +154,15 @@ module _ (m : Memory) (t : ℕ) (own server : List ℕ) (a : Attempt) (seg : Lis
     pub answer-time : t ≤ 2 ^ 48
     answer-time = time-most (m .clock) t (every-check theChecks clear .1 .0)
 
+    -- a negative answer, by the count and the option that counts
+    pub answer-negative : {o : Options} {negative : Bool} → o ≡ optionsIn seg → negative ≡ isUnacknowledged (a .sent) n && not (hasCookie (o .fast))
+        → negative ≡ isNegative a seg
+    answer-negative eo en = rw (en, eo, cookie-told seg, was-counted (refusal theChecks) a seg theReply .1)
+
     module _ {b cookie : List ℕ} {mss : Mss} {negative : Bool} {at known next : Memory} where
       pub answer-done : at ≡ moved m t (m .cache) (m .bans) → b ≡ block server → cookie ≡ cookieIn seg → mss ≡ mssIn seg
           → known ≡ withCache at (cacheAfter b cookie mss (at .cache))
-          → negative ≡ isUnacknowledged (a .sent) n → next ≡ withBans known (bansAfter t b (a .dest) negative (known .bans))
+          → negative ≡ isNegative a seg → next ≡ withBans known (bansAfter t b (a .dest) negative (known .bans))
           → record { memory = next; event = events.Answered n; written = 0 } ≡ step m answering
       unfolding after
       answer-done et eb ec es ek ei en =

@@ -14,6 +14,8 @@ use Rattle.segment.specs.declared.refusal.Check.{Check}
 use Rattle.segment.specs.declared.refusal.Check.the-variants.{Clear, Refused}
 use Rattle.segment.specs.declared.options.Mss.{Mss}
 use Rattle.segment.specs.declared.options.Mss.the-variants.{NotGiven, Given}
+use Rattle.segment.specs.declared.options.FastOpenOption.{FastOpenOption}
+use Rattle.segment.specs.declared.options.FastOpenOption.the-variants.{Absent, Request, Cookie}
 use Rattle.segment.specs.declared.options.Options.{Options}
 use Rattle.segment.specs.declared.write.Opening.{Opening}
 use Rattle.endpoint.specs.Address.{isSize, familyOf, block}
@@ -96,9 +98,15 @@ cacheAfter b cookie mss es = cond (brings cookie mss) (remembered (learnedFrom (
 abbrev pub isUnacknowledged : ℕ → ℕ → Bool
 isUnacknowledged sent count = not (eqb sent 0) && eqb count 0
 
--- an answer sets a ban if it is a negative response
+-- an answer sets a ban if it is a negative response: none of the data sent is acknowledged, and no cookie comes (02, Item 9)
 abbrev pub isNegative : Attempt → List ℕ → Bool
-isNegative a seg = isUnacknowledged (a .sent) (countIn a (fieldsOf seg))
+isNegative a seg = isUnacknowledged (a .sent) (countIn a (fieldsOf seg)) && eqb (length (cookieIn seg)) 0
+
+-- for the code: the cookie that comes is not empty, by the option that counts
+abbrev pub hasCookie : FastOpenOption → Bool
+hasCookie Absent = false
+hasCookie Request = false
+hasCookie (Cookie at len) = true
 
 abbrev pub bansAfter : ℕ → List ℕ → ℕ → Bool → List Ban → List Ban
 bansAfter t b port negative bans = cond negative (addBan t b port bans) bans

@@ -25,6 +25,7 @@ use endpoint::address::family_of;
 use endpoint::address::is_size;
 use endpoint::checks::check_name;
 use segment::header::option_area;
+use segment::options::FastOpenOption;
 use segment::options::Mss;
 use segment::options::cookie;
 use segment::options::segment_options;
@@ -33,6 +34,7 @@ use segment::refusal::Refusal;
 use segment::write::Opening;
 use segment::write::write_opening;
 ghost use mathlib.Core.Path.{_≡_};
+ghost use mathlib.Core.Bool.{not, _&&_};
 ghost use Prim.Native.Nat.{_≤_};
 ghost use lib.ListN.{length};
 ghost use Rattle.lists.specs.Bytes.{overwrite};
@@ -41,7 +43,7 @@ ghost use Rattle.client.specs.Refusals.{mostSent};
 ghost use Rattle.client.specs.Cache.{withCache};
 ghost use Rattle.client.specs.Bans.{withBans};
 ghost use Rattle.client.specs.Call.{Call};
-ghost use Rattle.client.specs.Step.{blank, neverStarted, startOf, sentWith, isGiven, cacheAfter, isUnacknowledged, bansAfter, step, outputOf, moved};
+ghost use Rattle.client.specs.Step.{blank, neverStarted, startOf, sentWith, isGiven, cacheAfter, isUnacknowledged, hasCookie, bansAfter, step, outputOf, moved};
 
 // A refused call changes nothing.
 fn refused(m: Memory, why: Refusal) -> Outcome
@@ -187,14 +189,21 @@ fn learn(m: Memory, b: [u8; 16], cookie: &[u8], mss: Mss) -> Memory
     remember(m, learned(old, b, cookie, mss))
 }
 
-// Data was sent and none acknowledged.
-fn is_negative(sent: u32, acknowledged: u32) -> bool
-    ensures { λ r. ⌜ r ≡ isUnacknowledged sent acknowledged ⌝ }
+// Data was sent, none is acknowledged, and no cookie comes.
+fn is_negative(sent: u32, acknowledged: u32, fast: FastOpenOption) -> bool
+    ensures { λ r. ⌜ r ≡ isUnacknowledged sent acknowledged && not (hasCookie fast) ⌝ }
 {
     if sent == 0 {
         return false;
     }
-    acknowledged == 0
+    if acknowledged != 0 {
+        return false;
+    }
+    match fast {
+        FastOpenOption::Absent => true,
+        FastOpenOption::Request => true,
+        FastOpenOption::Cookie { .. } => false,
+    }
 }
 
 // Bans the server after a negative answer.
@@ -222,7 +231,7 @@ pub fn answer(m: Memory, time: u64, own: &[u8], server: &[u8], a: Attempt, seg: 
             let fast = options.fast;
             let mss = options.mss;
             let known = learn(next, b, cookie(option_area(seg), fast), mss);
-            let negative = is_negative(a.sent, n);
+            let negative = is_negative(a.sent, n, fast);
             Outcome {
                 memory: ban_if(known, time, b, a.dest, negative),
                 event: Event::Answered(n),

@@ -1,13 +1,13 @@
 -- The two ends fit. Assumes nothing.
 use Prim.Native.Nat.{ℕ, min}
 use mathlib.Core.Path.{_≡_, ap, sym, _∙_}
-use mathlib.Core.Bool.{Bool, true, false}
+use mathlib.Core.Bool.{Bool, true, false, cond}
 use mathlib.Core.List.{[]}
 use native.Mathlib.Omega.{arith}
 use lib.ListN.{length}
 use lib.Seq.{take-take}
 use Rattle.endpoint.specs.Address.{block}
-use Rattle.protocol.specs.Cookie.{request, carriedBy}
+use Rattle.protocol.specs.Cookie.{request, cookie, cookieUnder, carriedBy, counts, right}
 use Rattle.protocol.specs.Call.{acceptedOf}
 use Rattle.protocol.specs.View.{viewOf}
 use Rattle.protocol.specs.Step as listener
@@ -15,13 +15,27 @@ use Rattle.protocol.specs.declared.state.Listener.{Listener}
 use Rattle.protocol.specs.declared.outcome.Event.{Event}
 use Rattle.protocol.specs.declared.outcome.Event.the-variants as events
 use Rattle.protocol.specs.declared.outcome.Outcome.{Outcome}
-use Rattle.protocol.proofs.Openings.{is-early, request-plain, request-fresh, new-clear, step-new}
+use Rattle.protocol.proofs.Cookie.{no-cookie, never-right}
+use Rattle.protocol.proofs.Openings.{is-early, wrong-plain, wrong-fresh, new-clear, step-new}
 use Rattle.protocol.proofs.StartOf as starting
+use Rattle.client.specs.Step as client
 use Rattle.client.specs.declared.outcome.Event.the-variants.{Answered}
 use Rattle.client.specs.declared.state.Memory.{Memory}
-use Rattle.handshake.specs.Handshake.{Asked, opening, sent, Arrival, arriving, Ends, carriedWith, stored, Issued, Taken, Later, Admits, CookieRequest, upToEarlyRoom, EarlyData, Handshake}
-use Rattle.handshake.proofs.Opening.{payload-length, opening-read-by-listener, wire-clear, kind-checked, none-sent, right-cookie}
+use Rattle.handshake.specs.Handshake.{Asked, opening, sent, Arrival, arriving, returning, Ends, carriedWith, stored, isBanned, Issued, present, Taken, Later, renewed, current, updated, Admits, CookieRequest, upToEarlyRoom, EarlyData, Outdated, NextOpening, CookieReplaced, Handshake}
+use Rattle.handshake.proofs.Opening.{payload-length, opening-read-by-listener, wire-clear, kind-checked, none-sent, carried-stored, carried, right-cookie}
 use Rattle.handshake.proofs.SynAck.{syn-ack-read-by-client}
+
+-- an opening after a cookie was stored and no ban set
+module _ (l : Listener) (a : Asked) (m m′ : Memory) (l′ : Listener) (a′ : Asked) (n : NextOpening l a m m′ l′ a′) (bans : m′ .bans ≡ m .bans)
+    (kept : stored m′ a ≡ current l a) where
+  free : isBanned m′ a′ ≡ false
+  free = rw bans (n .free)
+
+  now : stored m′ a′ ≡ cookieUnder (l′ .keys .present) (block (a′ .own))
+  now = rw (n .server, n .own, n .keys) kept
+
+  next-opening : (carriedBy (opening m′ a′) ≡ cookie (current l a)) × (right (l′ .keys) (block (a′ .own)) (carriedBy (opening m′ a′)) ≡ true)
+  next-opening = (carried m′ l′ a′ (n .ends) (l′ .keys .present) free now ∙ rw (n .own, n .keys), right-cookie m′ l′ a′ (n .ends) free (present now))
 
 module _ (m : Memory) (l : Listener) (a : Asked) (e : Ends m l a) where
   module _ (h : Arrival) (w : Admits m l a h) where
@@ -35,25 +49,52 @@ module _ (m : Memory) (l : Listener) (a : Asked) (e : Ends m l a) where
           iss = w .iss;
         }
 
-    -- without a cookie it is plain, and gets one
+    -- it is plain without a right cookie, and where an option counts it gets one
+    abbrev is-right : Bool
+    is-right = right (l .keys) (block (a .own)) (carriedBy (opening m a))
+
+    module _ (wrong : is-right ≡ false) where
+      plain-event : listener.step l (arriving m a h) .event ≡ events.Regular
+      plain-event =
+          ap (λ (o : Outcome). o .event)
+          (step-new l (h .time) (a .own) (opening m a) (h .iss) (h .out-len) (opening-read-by-listener m l a e .kind) (w .new) false
+          (wrong-plain (viewOf l (arriving m a h)) (block (a .own)) (opening m a) wrong) (taken .clear))
+
+      fresh : counts (carriedBy (opening m a)) ≡ true → renewed m l a h ≡ true
+      fresh some = wrong-fresh l (h .time) (a .own) (opening m a) (w .on) (w .below) wrong some
+
+      none-answered : (m′ : Memory) (t : ℕ) → Later m m′ t → client.step m′ (returning m l a h t) .event ≡ Answered 0
+      none-answered m′ t g = syn-ack-read-by-client m l a e h taken m′ t g .event ∙ ap (λ (x : Event). Answered (acceptedOf x)) plain-event
+
+    -- so does a request
     request-read : stored m a ≡ [] → carriedBy (opening m a) ≡ request
     request-read none =
         opening-read-by-listener m l a e .option ∙ ap (λ (t : Bool). carriedWith t (stored m a)) (w .free) ∙ ap (carriedWith false) none
 
-    plain-event : stored m a ≡ [] → listener.step l (arriving m a h) .event ≡ events.Regular
-    plain-event none =
-        ap (λ (o : Outcome). o .event)
-        (step-new l (h .time) (a .own) (opening m a) (h .iss) (h .out-len) (opening-read-by-listener m l a e .kind) (w .new) false
-        (request-plain (viewOf l (arriving m a h)) (block (a .own)) (opening m a) (request-read none)) (taken .clear))
-
     cookie-request : stored m a ≡ [] → (m′ : Memory) (t : ℕ) → Later m m′ t → CookieRequest m l a h m′ t
     cookie-request none m′ t g =
-        let read = syn-ack-read-by-client m l a e h taken m′ t g in
+        let wrong : is-right ≡ false = rw (request-read none) (never-right (l .keys) (block (a .own)) request (λ k. no-cookie k (block (a .own)) .1)) in
         record {
           none = none-sent m l a e none;
-          event = plain-event none;
-          answered = read .event ∙ ap (λ (x : Event). Answered (acceptedOf x)) (plain-event none);
-          kept = read .kept (request-fresh l (h .time) (a .own) (opening m a) (w .on) (w .below) (request-read none));
+          event = plain-event wrong;
+          answered = none-answered wrong m′ t g;
+          kept = syn-ack-read-by-client m l a e h taken m′ t g .kept (fresh wrong (rw (request-read none)));
+        }
+
+    -- and a cookie that is right under neither key
+    cookie-replaced : Outdated m l a → (m′ : Memory) (t : ℕ) → Later m m′ t → CookieReplaced m l a h m′ t
+    cookie-replaced out m′ t g =
+        let read = carried-stored m l a e (w .free) (λ none. omega (arith, out .some, none-sent m l a e none)) in
+        let wrong : is-right ≡ false = rw read (out .neither) in
+        let new = fresh wrong (rw read) in
+        let synAck = syn-ack-read-by-client m l a e h taken m′ t g in
+        record {
+          event = plain-event wrong;
+          fresh = synAck .cookie ∙ ap (λ (b : Bool). cond b (current l a) []) new;
+          answered = none-answered wrong m′ t g;
+          bans = synAck .bans new;
+          kept = synAck .kept new;
+          next = λ l′ a′ n. next-opening l a m′ (updated m l a h m′ t) l′ a′ n (synAck .bans new) (synAck .kept new);
         }
 
     -- with one that was issued it is early
@@ -86,4 +127,5 @@ module _ (m : Memory) (l : Listener) (a : Asked) (e : Ends m l a) where
         answered = syn-ack-read-by-client m l a e;
         requested = cookie-request;
         early = early-data;
+        replaced = cookie-replaced;
       }

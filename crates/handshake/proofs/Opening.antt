@@ -50,9 +50,9 @@ option-read mss true c o area e h = rw e
 option-read mss false [] o area e h = rw e
 option-read mss false (x ∷ c) o area e h = rw e (ap cookie (rw e at (h refl)))
 
--- the cookie, which is not empty
-carried-cookie : (c : List ℕ) → length c ≡ 8 → carriedWith false c ≡ cookie c
-carried-cookie [] e = absurd (omega arith)
+-- a cookie that is not empty
+carried-cookie : (c : List ℕ) → (c ≡ [] → ⊥) → carriedWith false c ≡ cookie c
+carried-cookie [] e = absurd (e refl)
 carried-cookie (x ∷ c) e = refl
 
 module _ (m : Memory) (l : Listener) (a : Asked) (e : Ends m l a) where
@@ -133,11 +133,13 @@ module _ (m : Memory) (l : Listener) (a : Asked) (e : Ends m l a) where
       let z : cookieLength entry ≡ 0 = sym whole ∙ ap length q in
       sent-is ∙ rw (eq-eqb _ _ z, or-true (isBanned m a))
 
-  -- what it finds is the cookie that was stored
-  carried : (w : List ℕ) → isBanned m a ≡ false → stored m a ≡ cookieUnder w (block (a .own)) → carriedBy (opening m a) ≡ cookie (cookieUnder w (block (a .own)))
+  -- what it finds is the cookie that was stored, if there was one
+  pub carried-stored : isBanned m a ≡ false → (stored m a ≡ [] → ⊥) → carriedBy (opening m a) ≡ cookie (stored m a)
+  carried-stored free some = opening-read-by-listener .option ∙ ap (λ (t : Bool). carriedWith t (stored m a)) free ∙ carried-cookie (stored m a) some
+
+  pub carried : (w : List ℕ) → isBanned m a ≡ false → stored m a ≡ cookieUnder w (block (a .own)) → carriedBy (opening m a) ≡ cookie (cookieUnder w (block (a .own)))
   carried w free q =
-      opening-read-by-listener .option ∙ ap (λ (t : Bool). carriedWith t (stored m a)) free ∙ ap (carriedWith false) q
-      ∙ carried-cookie (cookieUnder w (block (a .own))) (cookie-eight w (block (a .own)))
+      carried-stored free (λ z. omega (arith, cookie-eight w (block (a .own)), ap length q, ap length z)) ∙ ap (λ (c : List ℕ). cookie c) q
 
   pub right-cookie : isBanned m a ≡ false → Issued (l .keys) (block (a .own)) (stored m a) → right (l .keys) (block (a .own)) (carriedBy (opening m a)) ≡ true
   right-cookie free (present q) =

@@ -162,15 +162,21 @@ renewed m l a h = isFresh (viewOf l (arriving m a h)) (block (a .own)) (opening 
 abbrev pub current : Listener → Asked → List ℕ
 current l a = cookieUnder (l .keys .present) (block (a .own))
 
--- the client takes it, with the count that the listener accepted, its MSS and, if there is one, its fresh cookie, and both are stored then
+-- the client's memory when it has taken the SYN-ACK
+abbrev pub updated : Memory → Listener → Asked → Arrival → Memory → ℕ → Memory
+updated m l a h m′ t = client.step m′ (returning m l a h t) .memory
+
+-- the client takes it, with the count that the listener accepted, its MSS and, if there is one, its fresh cookie, and both are stored then; with a fresh cookie
+-- no ban is set
 pub record SynAckRead (m : Memory) (l : Listener) (a : Asked) (h : Arrival) (m′ : Memory) (t : ℕ) : Type 0 where
   pub event : client.step m′ (returning m l a h t) .event ≡ Answered (accepted m l a h)
   pub mss : optionsOf (reply m l a h) .mss ≡ Given (l .settings .mss)
   pub cookie : cookieIn (reply m l a h) ≡ cond (renewed m l a h) (current l a) []
-  pub kept : renewed m l a h ≡ true → stored (client.step m′ (returning m l a h t) .memory) a ≡ current l a
-  pub size : storedFor (client.step m′ (returning m l a h t) .memory) (a .server) .mss ≡ Given (l .settings .mss)
+  pub kept : renewed m l a h ≡ true → stored (updated m l a h m′ t) a ≡ current l a
+  pub bans : renewed m l a h ≡ true → updated m l a h m′ t .bans ≡ m′ .bans
+  pub size : storedFor (updated m l a h m′ t) (a .server) .mss ≡ Given (l .settings .mss)
 
--- Two kinds of opening: a request gets a cookie, and with a cookie that was issued the data is handed over at once.
+-- Three kinds of opening: a request gets a cookie, with a cookie that was issued the data is handed over at once, and one that is not right is replaced.
 
 -- Fast Open is on, pending is below the limit, a place is free, the name is new, and the server is not banned
 pub record Admits (m : Memory) (l : Listener) (a : Asked) (h : Arrival) : Type 0 where
@@ -187,7 +193,7 @@ pub record CookieRequest (m : Memory) (l : Listener) (a : Asked) (h : Arrival) (
   pub none : sent m a ≡ 0
   pub event : listener.step l (arriving m a h) .event ≡ events.Regular
   pub answered : client.step m′ (returning m l a h t) .event ≡ Answered 0
-  pub kept : stored (client.step m′ (returning m l a h t) .memory) a ≡ current l a
+  pub kept : stored (updated m l a h m′ t) a ≡ current l a
 
 -- the bytes sent, up to the early room
 abbrev pub upToEarlyRoom : Memory → Listener → Asked → ℕ
@@ -198,6 +204,30 @@ pub record EarlyData (m : Memory) (l : Listener) (a : Asked) (h : Arrival) (m′
   pub event : listener.step l (arriving m a h) .event ≡ events.FastOpened (upToEarlyRoom m l a)
   pub part : acceptedPart (opening m a) (listener.step l (arriving m a h) .event) ≡ take (upToEarlyRoom m l a) (a .offered)
   pub answered : client.step m′ (returning m l a h t) .event ≡ Answered (upToEarlyRoom m l a)
+
+-- the client sends data, with a cookie that is right under neither key, as after two key changes
+pub record Outdated (m : Memory) (l : Listener) (a : Asked) : Type 0 where
+  pub some : 0 < sent m a
+  pub neither : right (l .keys) (block (a .own)) (cookie (stored m a)) ≡ false
+
+-- its next opening: from the same address, to the same server, which was not banned before the SYN-ACK; the listener has the keys that it had
+pub record NextOpening (l : Listener) (a : Asked) (m′ m″ : Memory) (l′ : Listener) (a′ : Asked) : Type 0 where
+  pub ends : Ends m″ l′ a′
+  pub own : a′ .own ≡ a .own
+  pub server : a′ .server ≡ a .server
+  pub free : isBanned m′ a′ ≡ false
+  pub keys : l′ .keys ≡ l .keys
+
+-- The opening is plain, and its SYN-ACK has the fresh cookie. None of the data is acknowledged, and yet the client sets no ban; it stores the fresh cookie.
+-- Its next opening carries that cookie, and it is right.
+pub record CookieReplaced (m : Memory) (l : Listener) (a : Asked) (h : Arrival) (m′ : Memory) (t : ℕ) : Type 0 where
+  pub event : listener.step l (arriving m a h) .event ≡ events.Regular
+  pub fresh : cookieIn (reply m l a h) ≡ current l a
+  pub answered : client.step m′ (returning m l a h t) .event ≡ Answered 0
+  pub bans : updated m l a h m′ t .bans ≡ m′ .bans
+  pub kept : stored (updated m l a h m′ t) a ≡ current l a
+  pub next : (l′ : Listener) (a′ : Asked) → NextOpening l a m′ (updated m l a h m′ t) l′ a′
+      → (carriedBy (opening (updated m l a h m′ t) a′) ≡ cookie (current l a)) × (right (l′ .keys) (block (a′ .own)) (carriedBy (opening (updated m l a h m′ t) a′)) ≡ true)
 
 -- All of it
 
@@ -214,3 +244,5 @@ pub record Handshake (m : Memory) (l : Listener) (a : Asked) : Type 0 where
   pub requested : (h : Arrival) → Admits m l a h → stored m a ≡ [] → (m′ : Memory) (t : ℕ) → Later m m′ t → CookieRequest m l a h m′ t
   pub early : (h : Arrival) → Admits m l a h → Issued (l .keys) (block (a .own)) (stored m a) → (m′ : Memory) (t : ℕ) → Later m m′ t
       → EarlyData m l a h m′ t
+  -- and with one that is right under neither key
+  pub replaced : (h : Arrival) → Admits m l a h → Outdated m l a → (m′ : Memory) (t : ℕ) → Later m m′ t → CookieReplaced m l a h m′ t

@@ -15,6 +15,7 @@ use Rattle.segment.specs.Options.{readOptions, optionsOf}
 use Rattle.segment.specs.declared.header.Kind.the-variants.{Syn}
 use Rattle.segment.proofs.Cookie.{syn-options}
 use Rattle.lists.proofs.ByteLists.{bytes-take, bytes-of, each-byte}
+use Rattle.lists.proofs.Bools.{or-false}
 use Rattle.lists.proofs.SameBytes.{same-bytes-eq, same-bytes-refl}
 use Rattle.protocol.specs.Cookie.{Carried, nothing, request, cookie, cookieUnder, found, carriedBy, rightUnder, right}
 use Rattle.protocol.specs.declared.state.Keys.{Keys}
@@ -70,6 +71,11 @@ right-alone k b o e r = rw (e, r)
 pub right-else : (k : Keys) (b : List ℕ) (o : Carried) → rightUnder (k .present) b o ≡ false → k .rotated ≡ true → right k b o ≡ rightUnder (k .previous) b o
 unfolding right
 right-else k b o e r = rw (e, r)
+
+-- one that is not right is not the present key's, and one that is no key's is not right
+pub wrong-now : (k : Keys) (b : List ℕ) (o : Carried) → right k b o ≡ false → rightUnder (k .present) b o ≡ false
+unfolding right
+wrong-now k b o e = or-false (rightUnder (k .present) b o) _ e .0
 
 pub never-right : (k : Keys) (b : List ℕ) (o : Carried) → ((w : List ℕ) → rightUnder w b o ≡ false) → right k b o ≡ false
 unfolding right

@@ -18,7 +18,7 @@ use Rattle.lists.specs.Lists.{bit, tally, firstIndex}
 use Rattle.endpoint.specs.Address.{Peer, block}
 use Rattle.endpoint.specs.Checks.{isUntimely}
 use Rattle.lists.proofs.Sums.{sum-set, some-passes, first-passes, none-passes}
-use Rattle.protocol.specs.Cookie.{request, carriedBy, counts, rightUnder, right}
+use Rattle.protocol.specs.Cookie.{carriedBy, counts, rightUnder, right}
 use Rattle.protocol.specs.Table.{isLive, isPending, isFree, freeSlot, newSlot, holdsPeer, freePlace, pendingAt}
 use Rattle.protocol.specs.Call.{segment, sender}
 use Rattle.protocol.specs.View.{known, view}
@@ -27,6 +27,7 @@ use Rattle.protocol.specs.Step.{cookiesEnabled, accepts, isEarly, isFres
 use Rattle.protocol.specs.declared.slots.Slot.{Slot}
 use Rattle.protocol.specs.declared.state.View.{View}
 use Rattle.protocol.specs.declared.state.Listener.{Listener}
+use Rattle.protocol.proofs.Cookie.{wrong-now}
 use Rattle.protocol.proofs.Table.{not-free, idle}
 
 -- The table
@@ -104,15 +105,15 @@ pub fresh-is : (v : View) (b seg : List ℕ) → isFresh v b seg ≡ cookiesEnab
 unfolding isFresh
 fresh-is v b seg = refl
 
--- a request for a cookie is not early, and gets one where Fast Open is on and pending is below the limit
-pub request-plain : (v : View) (b seg : List ℕ) → carriedBy seg ≡ request → isEarly v b seg ≡ false
-unfolding isEarly right rightUnder
-request-plain v b seg r = rw (r, and-false (v .keys .rotated)) (and-false (v .settings .on && v .below))
+-- without a right cookie it is not early, and where an option counts it gets a cookie, if Fast Open is on and pending is below the limit
+pub wrong-plain : (v : View) (b seg : List ℕ) → right (v .keys) b (carriedBy seg) ≡ false → isEarly v b seg ≡ false
+wrong-plain v b seg w = early-is v b seg ∙ rw w (and-false (v .settings .on && v .below))
 
-pub request-fresh : (l : Listener) (t : ℕ) (src seg : List ℕ) → l .settings .on ≡ true → pendingAt t (l .slots) < l .settings .limit
-    → carriedBy seg ≡ request → isFresh (view l t (sender src seg)) (block src) seg ≡ true
-unfolding isFresh rightUnder
-request-fresh l t src seg on below r = rw (on, lt-ltb (pendingAt t (l .slots)) (l .settings .limit) below, r)
+pub wrong-fresh : (l : Listener) (t : ℕ) (src seg : List ℕ) → l .settings .on ≡ true → pendingAt t (l .slots) < l .settings .limit
+    → right (l .keys) (block src) (carriedBy seg) ≡ false → counts (carriedBy seg) ≡ true → isFresh (view l t (sender src seg)) (block src) seg ≡ true
+wrong-fresh l t src seg on below w some =
+    fresh-is (view l t (sender src seg)) (block src) seg
+    ∙ rw (on, lt-ltb (pendingAt t (l .slots)) (l .settings .limit) below, some, wrong-now (l .keys) (block src) (carriedBy seg) w)
 
 module _ (l : Listener) (t : ℕ) (src seg : List ℕ) (iss out-len : ℕ) (syn : kindOf (fieldsOf seg .flags) ≡ Syn)
     (new : known (view l t (sender src seg)) ≡ false) where

@@ -5,7 +5,7 @@ use Rattle.endpoint.specs.Address.{block}
 use Rattle.client.specs.Step.{cookieIn, mssIn}
 use Rattle.client.specs.declared.checks.Reply.{Reply}
 use Rattle.client.specs.declared.checks.Reply.the-variants.{Acknowledged}
-use Rattle.client.proofs.Step.{CheckedReply, answer-refused, answer-kept, answer-time, answer-done}
+use Rattle.client.proofs.Step.{CheckedReply, answer-refused, answer-kept, answer-time, answer-negative, answer-done}
 use Rattle.client.proofs.After.{brought-is, brought-most}
 use borrow.Author.Needs.{needs}
 use Rattle.client.proofs.calls.answer.Statement.{statement}
@@ -96,8 +96,10 @@ returns-2 c =
     let o = brought l in
     let b = named-at o in
     let a = start b .args in
+    let options = parsed (area o) .segment-options .ensures in
+    let negative = answer-negative (a .m) (a .time) (a .own .now) (a .server .now) (a .a) (a .seg .now) (acknowledged (counted b)) options (j .is-negative .ensures) in
     answer-done (a .m) (a .time) (a .own .now) (a .server .now) (a .a) (a .seg .now) (acknowledged (counted b))
-    (timed (checked (counted b)) .at-time .ensures) (named b) (brings o .0) (brings o .1) (l .learn .ensures) (j .is-negative .ensures) (c .ban-if .ensures)
+    (timed (checked (counted b)) .at-time .ensures) (named b) (brings o .0) (brings o .1) (l .learn .ensures) negative (c .ban-if .ensures)
 
 pub answer-spec : {M : Type 1} → statement M
 answer-spec =
