@@ -153,7 +153,8 @@ impl Client {
         let options = wire::read_options(segment.options());
         let cookie = options.fast_open.map_or(&[][..], |option| option.cookie);
         memory.store(attempt.server, cookie, options.mss);
-        if sent > 0 && acknowledged == 0 {
+        // RFC 7413's negative response, unless it brings a cookie: then only ours was out of date.
+        if sent > 0 && acknowledged == 0 && cookie.is_empty() {
             memory.ban(attempt.server, attempt.server_port, time);
         }
         memory.clock = time;

@@ -1,6 +1,8 @@
 //! Tests of the listener, the client and the scripts together.
 
-use crate::client::{Attempt, Client, BAN_MS, LEAST_OUTPUT as CLIENT_OUTPUT};
+use std::collections::BTreeMap;
+
+use crate::client::{Attempt, Client, Memory, BAN_MS, LEAST_OUTPUT as CLIENT_OUTPUT};
 use crate::generate;
 use crate::listener::{accepted_part, cookie, Kind, Listener, Reply, Settings, Verdict, LEAST_OUTPUT};
 use crate::script::{self, ClientSession, ListenerSession, Session};
@@ -363,6 +365,12 @@ impl Caller {
         self.client.open(time, &attempt(&to, port), 1460, &[7; 10], &mut self.out).unwrap().written
     }
 
+    /// What follows the size in such an opening; nothing where the server is banned.
+    fn opening(&mut self, time: u64, n: u8, port: u16) -> Vec<u8> {
+        let written = self.open(time, n, port);
+        self.out[24..written].to_vec()
+    }
+
     fn learn(
         &mut self,
         time: u64,
@@ -474,7 +482,8 @@ fn answers_are_checked() {
     assert_eq!(caller.learn(0, 1, &[], 1460, 1461), Err(Refusal::Number));
     assert_eq!(caller.learn(0, 1, &[], 1460, u32::MAX), Err(Refusal::Number));
     assert_eq!(caller.open(0, 1, 443), ASKING, "no ban so far");
-    assert_eq!(caller.learn(0, 1, &fast_open(&[3; 8]), 5, 0), Ok(0));
+    assert_eq!(caller.learn(0, 1, &fast_open(&[3; 8]), 0, 0), Ok(0));
+    assert_eq!(caller.learn(0, 1, &[], 5, 0), Ok(0));
     assert_eq!(caller.open(0, 1, 443), BANNED, "data was sent, none acknowledged");
     assert_eq!(caller.open(0, 1, 444), WITH_DATA, "bans go by port too");
     assert_eq!(caller.open(BAN_MS - 1, 1, 443), BANNED);
@@ -485,6 +494,93 @@ fn answers_are_checked() {
     assert_eq!(refused, Err(Refusal::Output));
     assert_eq!(Client::start(5).err(), Some(Refusal::Address));
     assert_eq!(Client::never_started().failed(0, &to, 1), Err(Refusal::NeverStarted));
+}
+
+/// What follows the size in an opening with this cookie.
+fn early(cookie: &[u8]) -> Vec<u8> {
+    [fast_open(cookie), vec![7; 10]].concat()
+}
+
+#[test]
+fn an_answer_with_a_cookie_sets_no_ban() {
+    let [old, new] = [vec![9; 8], vec![3; 8]];
+    let [request, skipped, again, cookie] = [&[][..], &[3; 7], &old, &new].map(fast_open);
+    // The options of an answer, and the cookie it brings.
+    let mut answers = vec![
+        (vec![], None),
+        (vec![2, 4, 5, 0xb4], None),
+        ([&request[..], &cookie].concat(), None),
+        ([&[0; 4][..], &cookie].concat(), None),
+        (cookie[..8].to_vec(), None),
+        ([&skipped[..], &cookie].concat(), Some(new.clone())),
+        ([&cookie[..], &request].concat(), Some(new.clone())),
+        ([&cookie[..], &again].concat(), Some(new)),
+        (again, Some(old.clone())),
+    ];
+    for length in 0..=38 {
+        let counted = (4..=16).contains(&length) && length % 2 == 0;
+        answers.push((fast_open(&vec![3; length]), counted.then(|| vec![3; length])));
+    }
+    for (options, brought) in answers {
+        let stored = brought.as_ref().unwrap_or(&old);
+        for (sent, acknowledged) in [(0, 0), (1, 0), (1460, 0), (1, 1), (5, 1), (5, 5)] {
+            let mut caller = Caller::new();
+            caller.learn(0, 1, &fast_open(&old), 0, 0).unwrap();
+            assert_eq!(caller.learn(0, 1, &options, sent, acknowledged), Ok(acknowledged));
+            let banned = sent > 0 && acknowledged == 0 && brought.is_none();
+            let expected = if banned { vec![] } else { early(stored) };
+            assert_eq!(caller.opening(0, 1, 443), expected, "{options:?} {sent} {acknowledged}");
+            assert_eq!(caller.opening(0, 1, 444), early(stored), "a ban goes by port, a cookie doesn't");
+        }
+    }
+}
+
+#[test]
+fn a_cookie_leaves_bans_as_they_are() {
+    // Without one the end moves.
+    for (brought, stored, end) in [(&[3; 8][..], [3; 8], 1 + BAN_MS), (&[], [9; 8], 2 + BAN_MS)] {
+        let mut caller = Caller::new();
+        caller.learn(0, 1, &fast_open(&[9; 8]), 5, 0).unwrap();
+        for port in [443, 444] {
+            assert_eq!(caller.opening(1, 1, port), early(&[9; 8]));
+            caller.client.failed(1, &server(1), port).unwrap();
+        }
+        caller.learn(2, 1, &fast_open(brought), 5, 0).unwrap();
+        for (time, port, banned) in [
+            (2, 443, true),
+            (2, 444, true),
+            (2, 445, false),
+            (BAN_MS, 444, true),
+            (end - 1, 443, true),
+            (1 + BAN_MS, 444, false),
+            (end, 443, false),
+        ] {
+            let expected = if banned { vec![] } else { early(&stored) };
+            assert_eq!(caller.opening(time, 1, port), expected, "{brought:?} {time} {port}");
+        }
+    }
+}
+
+/// A handshake with ten bytes on offer: what the front made of the opening, and how many
+/// bytes the client saw acknowledged.
+fn handshake(caller: &mut Caller, front: &mut Box64, own_port: u16) -> (Option<Verdict>, u32) {
+    let attempt = Attempt { own_port, ..attempt(&OWN, 443) };
+    let opened = caller.client.open(0, &attempt, 1460, &[7; 10], &mut caller.out).unwrap();
+    let reply = front.segment(0, 1000, &caller.out[..opened.written]);
+    let written = reply.unwrap().written;
+    let acknowledged = caller.client.answer(0, &attempt, opened.sent as u32, &front.out[..written]);
+    (verdict(reply), acknowledged.unwrap())
+}
+
+#[test]
+fn two_key_changes_behind() {
+    let (mut caller, mut front) = (Caller::new(), Box64::with(SETTINGS));
+    assert_eq!(handshake(&mut caller, &mut front, 1), (Some(Verdict::Plain), 0), "asks for a cookie");
+    assert_eq!(handshake(&mut caller, &mut front, 2), (Some(Verdict::Early), 10));
+    front.listener.key(0, &[1; 16]).unwrap();
+    front.listener.key(0, &[2; 16]).unwrap();
+    assert_eq!(handshake(&mut caller, &mut front, 3), (Some(Verdict::Plain), 0), "right under neither key");
+    assert_eq!(handshake(&mut caller, &mut front, 4), (Some(Verdict::Early), 10), "with the fresh cookie");
 }
 
 #[test]
@@ -502,6 +598,11 @@ fn least_recently_stored_is_forgotten() {
     assert_eq!(caller.open(0, 1, 443), ASKING);
     assert_eq!(caller.open(0, 2, 443), WITH_DATA);
     assert_eq!(caller.open(0, 32, 443), WITH_DATA);
+    // A cookie makes 2 most recent though none of the data was acknowledged.
+    caller.learn(0, 2, &fast_open(&[3; 8]), 5, 0).unwrap();
+    caller.learn(0, 33, &fast_open(&[3; 8]), 0, 0).unwrap();
+    assert_eq!(caller.open(0, 2, 443), WITH_DATA);
+    assert_eq!(caller.open(0, 3, 443), ASKING);
 }
 
 #[test]
@@ -664,32 +765,41 @@ impl Met {
     }
 }
 
+fn unhex(word: &str) -> Vec<u8> {
+    let digits = word.trim_matches('-');
+    (0..digits.len()).step_by(2).map(|at| u8::from_str_radix(&digits[at..at + 2], 16).unwrap()).collect()
+}
+
+/// Runs a generated script and shows each call that is done: its words, the answer's and the
+/// memory after it.
+fn each_done(seed: u64, mut show: impl FnMut(&[&str], &[&str], &Memory)) {
+    let mut session = ClientSession::new();
+    for line in generate::client(seed, 3000).split(|&b| b == b'\n') {
+        let Some(printed) = session.line(line).filter(|printed| printed.starts_with("0 ")) else { continue };
+        let words: Vec<&str> = std::str::from_utf8(line).unwrap().split(' ').collect();
+        let printed: Vec<&str> = printed.split(' ').collect();
+        show(&words, &printed, session.client.memory().unwrap());
+    }
+}
+
 #[test]
 fn generated_openings_meet_the_room() {
-    let length = |word: &[u8]| if word == b"-" { 0 } else { word.len() / 2 };
-    let byte = |hex: &str, at: usize| usize::from_str_radix(&hex[2 * at..2 * at + 2], 16).unwrap();
     for seed in 1..=4 {
-        let mut session = ClientSession::new();
         let mut met: [Met; 17] = Default::default();
-        for line in generate::client(seed, 3000).split(|&b| b == b'\n') {
-            let Some(printed) = session.line(line) else { continue };
-            let printed: Vec<&str> = printed.split(' ').collect();
-            let words: Vec<&[u8]> = line.split(|&b| b == b' ').collect();
-            if printed[0] != "0" || words[0] != b"open" {
-                continue;
+        each_done(seed, |words, printed, memory| {
+            if words[0] != "open" {
+                return;
             }
-            let options = 4 * (byte(printed[3], 12) >> 4) - 20;
+            let options = 4 * usize::from(unhex(printed[3])[12] >> 4) - 20;
             if options <= 8 {
                 // banned, or asking
-                continue;
+                return;
             }
-            let server = std::str::from_utf8(words[4]).unwrap();
-            let server: Vec<u8> = (0..server.len() / 2).map(|at| byte(server, at) as u8).collect();
-            let (cookie, size) = session.client.memory().unwrap().known(&server);
-            let (room, offered) = (size as i64 - options as i64, length(words[9]) as i64);
+            let (cookie, size) = memory.known(&unhex(words[4]));
+            let (room, offered) = (size as i64 - options as i64, unhex(words[9]).len() as i64);
             assert_eq!(printed[1], offered.min(room.max(0)).to_string());
             met[cookie.len()].add(room, offered);
-        }
+        });
         for (length, met) in met.iter().enumerate().skip(4).step_by(2) {
             let least = met.below_zero.min(met.zero).min(met.one).min(met.few);
             assert!(least >= 1, "seed {seed} cookie {length}");
@@ -698,5 +808,72 @@ fn generated_openings_meet_the_room() {
         assert!(all(|met| met.below_zero) >= 40 && all(|met| met.zero) >= 15, "seed {seed}");
         assert!(all(|met| met.filled) >= 20 && all(|met| met.cut_by_one) >= 20, "seed {seed}");
         assert!(all(|met| met.large_filled) >= 3 && all(|met| met.large_cut_by_one) >= 3, "seed {seed}");
+    }
+}
+
+/// What an answer brings of Fast Open, with the length of its cookie. A 34 that isn't read as
+/// an option that counts is taken for a skipped one.
+fn brings(area: &[u8]) -> (&'static str, usize) {
+    let used = |area| wire::read_options(area).fast_open;
+    match used(area) {
+        None if area.contains(&34) => ("skipped", 0),
+        None => ("nothing", 0),
+        Some(first) if !first.cookie.is_empty() => {
+            let skipped = area[..first.at - 2].contains(&34);
+            (if skipped { "skipped, cookie" } else { "cookie" }, first.cookie.len())
+        }
+        Some(first) => match used(&area[first.at..]) {
+            Some(next) if !next.cookie.is_empty() => ("request, cookie", 0),
+            _ => ("request", 0),
+        },
+    }
+}
+
+#[test]
+fn generated_openings_meet_the_ban() {
+    for seed in 1..=4 {
+        // By name: what the last answer brought, and its time, if it left all data
+        // unacknowledged and there was no ban.
+        let mut last = BTreeMap::new();
+        let mut banned = Vec::new();
+        // What was brought, for each opening that tells whether such an answer set a ban; and
+        // how many openings come at a ban's end.
+        let mut telling = Vec::new();
+        let mut ends = 0;
+        each_done(seed, |words, printed, memory| {
+            let clock = memory.clock();
+            let name = |at: usize| (unhex(words[at]), words[at + 1].parse::<u16>().unwrap());
+            match words[0] {
+                "start" => last.clear(),
+                "failed" => _ = last.remove(&name(2)),
+                "answer" => {
+                    last.remove(&name(4));
+                    if words[7].parse() != Ok(0) && printed[1] == "0" && !banned.contains(&name(4)) {
+                        let segment = unhex(words[8]);
+                        let area = wire::Segment::parse(&segment).unwrap().options();
+                        last.insert(name(4), (brings(area), clock));
+                    }
+                }
+                _ => {
+                    if let Some(&(brought, time)) = last.get(&name(4)) {
+                        if clock < time + BAN_MS {
+                            telling.push(brought);
+                        }
+                        ends += usize::from(clock == time + BAN_MS - 1 || clock == time + BAN_MS);
+                    }
+                }
+            }
+            let live = memory.bans().filter(|ban| ban.until > clock);
+            banned = live.map(|ban| (ban.address.clone(), ban.port)).collect();
+        });
+        for length in [4, 6, 8, 10, 12, 14, 16] {
+            let count = telling.iter().filter(|brought| brought.1 == length).count();
+            assert!(count >= 1, "seed {seed} cookie {length}");
+        }
+        for sort in ["skipped, cookie", "request, cookie", "request", "skipped", "nothing"] {
+            let count = telling.iter().filter(|brought| brought.0 == sort).count();
+            assert!(count >= 4, "seed {seed} {sort}");
+        }
+        assert!(ends >= 4, "seed {seed}");
     }
 }

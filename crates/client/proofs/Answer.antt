@@ -1,5 +1,5 @@
 -- Laws for a crate above: a call that is clear, a header that answers an attempt, and what an answer stores. Assumes nothing.
-use Prim.Native.Nat.{ℕ, _≤_}
+use Prim.Native.Nat.{ℕ, _≤_, _<_}
 use mathlib.Core.Path.{_≡_, refl}
 use mathlib.Core.Bool.{true, false, not, or-true, and-false}
 use mathlib.Core.List.{List}
@@ -21,6 +21,7 @@ use Rattle.endpoint.proofs.Clear.{Passed, every-check}
 use Rattle.lists.proofs.SameBytes.{same-bytes-refl}
 use Rattle.endpoint.proofs.Names.{short}
 use Rattle.client.specs.Cache.{isFor, entryFor, cookieOf}
+use Rattle.client.specs.Bans.{addBan}
 use Rattle.client.specs.Call.{Call, answer}
 use Rattle.client.specs.Refusals.{isMss, isBetween, countIn, checks, callCheck}
 use Rattle.client.specs.Step.{cookieIn, mssIn, cacheAfter, isUnacknowledged, storedFor, after}
@@ -68,6 +69,12 @@ pub cookie-no-ban : (m : Memory) (t : ℕ) (own server : List ℕ) (a : Attempt)
     → after m (answer t own server a seg) .bans ≡ m .bans
 unfolding after
 cookie-no-ban m t own server a seg e = rw (cookie-some (cookieIn seg) e, and-false (isUnacknowledged (a .sent) (countIn a (fieldsOf seg))))
+
+-- without one it is set, where data was sent and none is acknowledged
+pub negative-ban : (m : Memory) (t : ℕ) (own server : List ℕ) (a : Attempt) (seg : List ℕ) → 0 < a .sent → countIn a (fieldsOf seg) ≡ 0 → length (cookieIn seg) ≡ 0
+    → after m (answer t own server a seg) .bans ≡ addBan t (block server) (a .dest) (m .bans)
+unfolding after
+negative-ban m t own server a seg s z e = rw (ne-eqb (a .sent) 0 (λ n. omega (arith, s, n)), eq-eqb _ _ z, eq-eqb _ _ e)
 
 -- an MSS that comes is stored, too
 mss-learned : (b c : List ℕ) (v : ℕ) (es : List Entry) → entryFor b (cacheAfter b c (Given v) es) .mss ≡ Given v

@@ -1,4 +1,4 @@
--- Document 01, "Client": the start, and one call on a memory with its outcome: the memory next, what happened and what is written.
+-- Document 01, "Client", and document 02, Item 9: the start, and one call on a memory with its outcome: the memory next, what happened and what is written.
 -- Assumes nothing.
 use Prim.Native.Nat.{ℕ, min}
 use mathlib.Core.List.{List, [], _∷_}
@@ -98,11 +98,11 @@ cacheAfter b cookie mss es = cond (brings cookie mss) (remembered (learnedFrom (
 abbrev pub isUnacknowledged : ℕ → ℕ → Bool
 isUnacknowledged sent count = not (eqb sent 0) && eqb count 0
 
--- an answer sets a ban if it is a negative response: none of the data sent is acknowledged, and no cookie comes (02, Item 9)
+-- an answer sets a ban if it is a negative response: data was sent, none of it is acknowledged, and no cookie comes, or an empty one (02, Item 9)
 abbrev pub isNegative : Attempt → List ℕ → Bool
 isNegative a seg = isUnacknowledged (a .sent) (countIn a (fieldsOf seg)) && eqb (length (cookieIn seg)) 0
 
--- for the code: the cookie that comes is not empty, by the option that counts
+-- for the code: a cookie that is not empty comes, by the option that counts (law `cookie-told`)
 abbrev pub hasCookie : FastOpenOption → Bool
 hasCookie Absent = false
 hasCookie Request = false

@@ -189,7 +189,7 @@ fn learn(m: Memory, b: [u8; 16], cookie: &[u8], mss: Mss) -> Memory
     remember(m, learned(old, b, cookie, mss))
 }
 
-// Data was sent, none is acknowledged, and no cookie comes.
+// Whether an answer is negative: data was sent, none is acknowledged, and no cookie comes.
 fn is_negative(sent: u32, acknowledged: u32, fast: FastOpenOption) -> bool
     ensures { λ r. ⌜ r ≡ isUnacknowledged sent acknowledged && not (hasCookie fast) ⌝ }
 {
@@ -206,7 +206,7 @@ fn is_negative(sent: u32, acknowledged: u32, fast: FastOpenOption) -> bool
     }
 }
 
-// Bans the server after a negative answer.
+// Bans the server if the answer was negative.
 fn ban_if(m: Memory, time: u64, b: [u8; 16], port: u16, negative: bool) -> Memory
     requires { ⌜ time ≤ lastTime ⌝ }
     ensures { λ r. ⌜ r ≡ withBans m (bansAfter time b port negative (m .bans)) ⌝ }

@@ -92,12 +92,12 @@ module _ (m : Memory) (l : Listener) (a : Asked) (e : Ends m l a) where
           event = plain-event wrong;
           fresh = synAck .cookie ∙ ap (λ (b : Bool). cond b (current l a) []) new;
           answered = none-answered wrong m′ t g;
-          bans = synAck .bans new;
+          no-ban = synAck .no-ban new;
           kept = synAck .kept new;
-          next = λ l′ a′ n. next-opening l a m′ (updated m l a h m′ t) l′ a′ n (synAck .bans new) (synAck .kept new);
+          next = λ l′ a′ n. next-opening l a m′ (updated m l a h m′ t) l′ a′ n (synAck .no-ban new) (synAck .kept new);
         }
 
-    -- with one that was issued it is early
+    -- with a right cookie it is early
     early-event : Issued (l .keys) (block (a .own)) (stored m a) → listener.step l (arriving m a h) .event ≡ events.FastOpened (upToEarlyRoom m l a)
     early-event i =
         let right = right-cookie m l a e (w .free) i in

@@ -171,9 +171,13 @@ module _ (m : Memory) (l : Listener) (a : Asked) (e : Ends m l a) (h : Arrival) 
               ap (λ (o : client-outcome.Outcome). stored (o .memory) a) done
               ∙ reading.cookie-stored m′ t (a .own) (a .server) (attempted m a) (reply m l a h) (fresh-length f)
               ∙ cookie-is ∙ ap (λ (b : Bool). cond b (current l a) []) f;
-          bans = λ f.
+          no-ban = λ f.
               ap (λ (o : client-outcome.Outcome). o .memory .bans) done
               ∙ reading.cookie-no-ban m′ t (a .own) (a .server) (attempted m a) (reply m l a h) (fresh-length f);
+          ban = λ f s z.
+              ap (λ (o : client-outcome.Outcome). o .memory .bans) done
+              ∙ reading.negative-ban m′ t (a .own) (a .server) (attempted m a) (reply m l a h) s (counted ∙ z)
+              (ap length (cookie-is ∙ ap (λ (b : Bool). cond b (current l a) []) f));
           size =
               ap (λ (o : client-outcome.Outcome). storedFor (o .memory) (a .server) .mss) done
               ∙ reading.mss-stored m′ t (a .own) (a .server) (attempted m a) (reply m l a h) (l .settings .mss) (ap (λ (o : Options). o .mss) (read .options));

@@ -1,4 +1,5 @@
--- The two ends fit, in the first two segments of a handshake: what the client writes is read by the listener as it was meant, and the listener's SYN-ACK by the client.
+-- The two ends fit, in the first two segments of a handshake: what the client writes is read by the listener as it was meant, and the listener's SYN-ACK by the client;
+-- and, after a SYN-ACK that replaced a cookie, in the client's next opening (02, Item 9).
 -- Assumes nothing.
 use Prim.Native.Nat.{ℕ, _^_, _≤_, _<_, min}
 use mathlib.Core.Path.{_≡_}
@@ -29,6 +30,7 @@ use Rattle.protocol.specs.declared.state.Keys.{Keys}
 use Rattle.protocol.specs.declared.state.Listener.{Listener}
 use Rattle.protocol.specs.declared.outcome.Event.the-variants as events
 use Rattle.client.specs.Cache.{cookieOf}
+use Rattle.client.specs.Bans.{addBan}
 use Rattle.client.specs.Call.{connect, answer, countOf}
 use Rattle.client.specs.Call as client-calls
 use Rattle.client.specs.Refusals as client-checks
@@ -135,7 +137,7 @@ pub record Listens (l : Listener) (h : Arrival) : Type 0 where
   pub timely : isUntimely (l .clock) (h .time) ≡ false
   pub out-len : longestSynAck ≤ h .out-len
 
--- a cookie that the listener issued for the address with this block: under its present key, or under the previous one if there is one
+-- the listener's cookie for the address with this block, under its present key, or under the previous one if there is one
 pub data Issued (k : Keys) (b c : List ℕ) : Type 0 where
   present : c ≡ cookieUnder (k .present) b → Issued k b c
   previous : k .rotated ≡ true → c ≡ cookieUnder (k .previous) b → Issued k b c
@@ -166,17 +168,19 @@ current l a = cookieUnder (l .keys .present) (block (a .own))
 abbrev pub updated : Memory → Listener → Asked → Arrival → Memory → ℕ → Memory
 updated m l a h m′ t = client.step m′ (returning m l a h t) .memory
 
--- the client takes it, with the count that the listener accepted, its MSS and, if there is one, its fresh cookie, and both are stored then; with a fresh cookie
--- no ban is set
+-- the client takes it, with the count that the listener accepted, its MSS and, if there is one, its fresh cookie, and both are stored then. With a fresh cookie it
+-- sets no ban; without one it sets one where none of the data that it sent was accepted.
 pub record SynAckRead (m : Memory) (l : Listener) (a : Asked) (h : Arrival) (m′ : Memory) (t : ℕ) : Type 0 where
   pub event : client.step m′ (returning m l a h t) .event ≡ Answered (accepted m l a h)
   pub mss : optionsOf (reply m l a h) .mss ≡ Given (l .settings .mss)
   pub cookie : cookieIn (reply m l a h) ≡ cond (renewed m l a h) (current l a) []
   pub kept : renewed m l a h ≡ true → stored (updated m l a h m′ t) a ≡ current l a
-  pub bans : renewed m l a h ≡ true → updated m l a h m′ t .bans ≡ m′ .bans
+  pub no-ban : renewed m l a h ≡ true → updated m l a h m′ t .bans ≡ m′ .bans
+  pub ban : renewed m l a h ≡ false → 0 < sent m a → accepted m l a h ≡ 0 → updated m l a h m′ t .bans ≡ addBan t (block (a .server)) (a .ends .dest) (m′ .bans)
   pub size : storedFor (updated m l a h m′ t) (a .server) .mss ≡ Given (l .settings .mss)
 
--- Three kinds of opening: a request gets a cookie, with a cookie that was issued the data is handed over at once, and one that is not right is replaced.
+-- Three kinds of opening: a request gets a cookie, with a right cookie the data is handed over at once, and one that is right under neither key is
+-- replaced.
 
 -- Fast Open is on, pending is below the limit, a place is free, the name is new, and the server is not banned
 pub record Admits (m : Memory) (l : Listener) (a : Asked) (h : Arrival) : Type 0 where
@@ -210,7 +214,8 @@ pub record Outdated (m : Memory) (l : Listener) (a : Asked) : Type 0 where
   pub some : 0 < sent m a
   pub neither : right (l .keys) (block (a .own)) (cookie (stored m a)) ≡ false
 
--- its next opening: from the same address, to the same server, which was not banned before the SYN-ACK; the listener has the keys that it had
+-- its next call, an opening (m′ is its memory before the SYN-ACK, m″ after): from the same address to the same server, for which no ban from before the SYN-ACK is
+-- live then; the listener has the keys that it had
 pub record NextOpening (l : Listener) (a : Asked) (m′ m″ : Memory) (l′ : Listener) (a′ : Asked) : Type 0 where
   pub ends : Ends m″ l′ a′
   pub own : a′ .own ≡ a .own
@@ -219,12 +224,12 @@ pub record NextOpening (l : Listener) (a : Asked) (m′ m″ : Memory) (l′ : L
   pub keys : l′ .keys ≡ l .keys
 
 -- The opening is plain, and its SYN-ACK has the fresh cookie. None of the data is acknowledged, and yet the client sets no ban; it stores the fresh cookie.
--- Its next opening carries that cookie, and it is right.
+-- Its next opening carries that cookie, which is right.
 pub record CookieReplaced (m : Memory) (l : Listener) (a : Asked) (h : Arrival) (m′ : Memory) (t : ℕ) : Type 0 where
   pub event : listener.step l (arriving m a h) .event ≡ events.Regular
   pub fresh : cookieIn (reply m l a h) ≡ current l a
   pub answered : client.step m′ (returning m l a h t) .event ≡ Answered 0
-  pub bans : updated m l a h m′ t .bans ≡ m′ .bans
+  pub no-ban : updated m l a h m′ t .bans ≡ m′ .bans
   pub kept : stored (updated m l a h m′ t) a ≡ current l a
   pub next : (l′ : Listener) (a′ : Asked) → NextOpening l a m′ (updated m l a h m′ t) l′ a′
       → (carriedBy (opening (updated m l a h m′ t) a′) ≡ cookie (current l a)) × (right (l′ .keys) (block (a′ .own)) (carriedBy (opening (updated m l a h m′ t) a′)) ≡ true)
@@ -236,11 +241,11 @@ pub record Handshake (m : Memory) (l : Listener) (a : Asked) : Type 0 where
   pub opened : OpeningRead m a
   -- and has no refusal for it but those of an opening, 7 and 8
   pub checked-by-kind : (h : Arrival) → Listens l h → listener-checks.callCheck l (arriving m a h) ≡ refusal (kindChecks (viewOf l (arriving m a h)) (fieldsOf (opening m a)) Syn)
-  -- a cookie that it issued is right
+  -- its cookie for the client's address is right, under the present key and under the previous one
   pub right-cookie : isBanned m a ≡ false → Issued (l .keys) (block (a .own)) (stored m a) → right (l .keys) (block (a .own)) (carriedBy (opening m a)) ≡ true
   -- the client reads the SYN-ACK as the listener meant it
   pub answered : (h : Arrival) → Taken m l a h → (m′ : Memory) (t : ℕ) → Later m m′ t → SynAckRead m l a h m′ t
-  -- without a cookie, and with one that was issued
+  -- without a cookie, and with a right one
   pub requested : (h : Arrival) → Admits m l a h → stored m a ≡ [] → (m′ : Memory) (t : ℕ) → Later m m′ t → CookieRequest m l a h m′ t
   pub early : (h : Arrival) → Admits m l a h → Issued (l .keys) (block (a .own)) (stored m a) → (m′ : Memory) (t : ℕ) → Later m m′ t
       → EarlyData m l a h m′ t

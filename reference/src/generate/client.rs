@@ -22,8 +22,8 @@ struct Theme {
     calls: usize,
     servers: usize,
     ports: usize,
-    /// Weights: open, answer, failed, noise, crowd, rooms.
-    actions: [u64; 6],
+    /// Weights: open, answer, failed, noise, crowd, rooms, unacknowledged.
+    actions: [u64; 7],
     /// Percent of answers that acknowledge none of the data sent.
     ignored: u64,
     damage: u64,
@@ -36,17 +36,17 @@ struct Theme {
 #[rustfmt::skip]
 const THEMES: [Theme; 6] = [
     // few servers, everything
-    Theme { calls: 250, servers: 4, ports: 2, actions: [40, 50, 3, 3, 0, 1], ignored: 8, damage: 20, step: 50_000, ban_ends: 10, near_last_time: false },
+    Theme { calls: 250, servers: 4, ports: 2, actions: [40, 50, 3, 3, 0, 2, 6], ignored: 8, damage: 24, step: 50_000, ban_ends: 10, near_last_time: false },
     // more servers than are remembered
-    Theme { calls: 420, servers: 36, ports: 1, actions: [40, 56, 1, 1, 0, 1], ignored: 1, damage: 12, step: 1000, ban_ends: 2, near_last_time: false },
+    Theme { calls: 420, servers: 36, ports: 1, actions: [40, 56, 1, 1, 0, 2, 6], ignored: 1, damage: 14, step: 1000, ban_ends: 2, near_last_time: false },
     // more bans than are remembered, often in the same millisecond
-    Theme { calls: 320, servers: 9, ports: 5, actions: [120, 80, 60, 3, 9, 3], ignored: 60, damage: 12, step: 1, ban_ends: 0, near_last_time: false },
+    Theme { calls: 320, servers: 9, ports: 5, actions: [120, 80, 60, 3, 9, 4, 20], ignored: 60, damage: 14, step: 1, ban_ends: 0, near_last_time: false },
     // bans that end
-    Theme { calls: 260, servers: 5, ports: 3, actions: [104, 52, 40, 2, 1, 2], ignored: 25, damage: 14, step: 90_000, ban_ends: 35, near_last_time: false },
+    Theme { calls: 260, servers: 5, ports: 3, actions: [104, 52, 40, 2, 1, 3, 30], ignored: 25, damage: 17, step: 90_000, ban_ends: 35, near_last_time: false },
     // hostile
-    Theme { calls: 220, servers: 3, ports: 2, actions: [22, 55, 5, 16, 0, 1], ignored: 10, damage: 50, step: 10_000, ban_ends: 5, near_last_time: false },
+    Theme { calls: 220, servers: 3, ports: 2, actions: [22, 55, 5, 16, 0, 1, 4], ignored: 10, damage: 54, step: 10_000, ban_ends: 5, near_last_time: false },
     // the end of time
-    Theme { calls: 120, servers: 5, ports: 2, actions: [40, 40, 15, 2, 0, 1], ignored: 20, damage: 18, step: 90_000, ban_ends: 10, near_last_time: true },
+    Theme { calls: 120, servers: 5, ports: 2, actions: [40, 40, 15, 2, 0, 2, 6], ignored: 20, damage: 20, step: 90_000, ban_ends: 10, near_last_time: true },
 ];
 
 /// How many option bytes an opening has with a cookie of this length.
@@ -61,6 +61,31 @@ fn about(rng: &mut Rng, room: i64) -> u64 {
         return rng.within(1, 40);
     }
     (room + rng.pick(&[-1, 0, 0, 1, 1])).max(1) as u64
+}
+
+/// The Fast Open option with this cookie, of a length that counts or not.
+fn fast_open(cookie: &[u8]) -> Vec<u8> {
+    [&[wire::FAST_OPEN, 2 + cookie.len() as u8][..], cookie].concat()
+}
+
+/// One sort of answer by its Fast Open options: with this cookie, without one, or with one
+/// that counts only if what stands before it doesn't.
+fn answer_sort(rng: &mut Rng, cookie: &[u8]) -> Vec<Vec<u8>> {
+    let (request, cookie) = (fast_open(&[]), fast_open(cookie));
+    let length = rng.pick(&[1, 2, 3, 5, 7, 9, 15, 17, 18]);
+    let skipped = fast_open(&rng.bytes(length));
+    let end = rng.pick(&[vec![wire::END_OF_LIST], vec![wire::FAST_OPEN, 0], vec![wire::FAST_OPEN, 255]]);
+    match rng.below(17) {
+        0..=5 => vec![cookie],
+        6 => vec![cookie, request],
+        7 | 8 => vec![skipped, cookie],
+        9 | 10 => vec![request, cookie],
+        11 => vec![end, cookie],
+        12 | 13 => vec![request],
+        14 => vec![skipped],
+        15 => vec![wire::mss_option(1460).to_vec()],
+        _ => Vec::new(),
+    }
 }
 
 struct Maker {
@@ -135,7 +160,8 @@ impl Maker {
             2 => self.failed(theme),
             3 => self.noise(theme),
             4 => self.crowd(theme),
-            _ => self.rooms(),
+            5 => self.rooms(),
+            _ => self.unacknowledged(theme),
         }
     }
 
@@ -239,8 +265,8 @@ impl Maker {
         let length = match (rng.below(30), near) {
             (0 | 1, _) => rng.pick(&[1439, 1440, 1441, 1441, 1459, 1460, 1461, 1600]),
             (2 | 3, _) => rng.pick(&[535, 536, 537, 1219, 1220, 1221]),
-            (4..=6, Some(near)) => near,
-            (7..=10, _) => 0,
+            (4..=7, Some(near)) => near,
+            (8..=10, _) => 0,
             // more often where it is short
             (11..=19, Some(near)) if near <= 40 => near,
             _ => rng.within(1, 40),
@@ -290,14 +316,14 @@ impl Maker {
             wanted.push(wire::mss_option(mss).to_vec());
         }
         if rng.percent(65) {
-            wanted.push([&[wire::FAST_OPEN, 2 + cookie.len() as u8][..], &cookie].concat());
+            wanted.push(fast_open(&cookie));
         } else if rng.percent(15) {
             // nothing to store
-            return area_with(rng, &[vec![wire::FAST_OPEN, 2]]);
+            return area_with(rng, &[fast_open(&[])]);
         } else if rng.percent(25) {
             // an empty one stands first and is the one used
-            wanted.push(vec![wire::FAST_OPEN, 2]);
-            wanted.push([&[wire::FAST_OPEN, 2 + cookie.len() as u8][..], &cookie].concat());
+            wanted.push(fast_open(&[]));
+            wanted.push(fast_open(&cookie));
         }
         if rng.percent(15) {
             wanted.reverse();
@@ -432,6 +458,32 @@ impl Maker {
         self.script.call(&line);
     }
 
+    /// An answer that acknowledges no data, in which only the server, the bytes sent and the
+    /// options matter.
+    fn simple_answer(&mut self, time: u64, server: &[u8], port: u16, sent: u32, options: &[u8]) {
+        let rng = &mut self.script.rng;
+        let ours = rng.sequence();
+        let header = Header {
+            source_port: port,
+            destination_port: 1,
+            sequence: rng.sequence(),
+            acknowledgement: ours.wrapping_add(1),
+            flags: SYN | ACK,
+        };
+        let mut segment = [&[0; wire::HEADER][..], options].concat();
+        wire::finish(&mut segment, &header, options.len(), server, &self.own);
+        let line = Line::new("answer")
+            .u64(time)
+            .bytes(&self.own)
+            .u16(1)
+            .bytes(server)
+            .u16(port)
+            .u32(ours)
+            .u32(sent)
+            .bytes(&segment);
+        self.script.call(&line);
+    }
+
     /// Cookies of every length, each with a size about its option bytes; after each an
     /// opening with data about the room.
     fn rooms(&mut self) {
@@ -443,33 +495,52 @@ impl Maker {
             let room = rng.pick(&[-8, -1, 0, 0, 1, 1, 2, 9]);
             let mss = option_bytes(length) as i64 + room;
             let mut options = wire::mss_option(mss as u16).to_vec();
-            options.extend_from_slice(&[wire::FAST_OPEN, 2 + length as u8]);
-            options.extend(rng.bytes(length));
+            options.extend(fast_open(&rng.bytes(length)));
             options.resize(option_bytes(length), wire::NO_OPERATION);
-            let mut segment = vec![0; wire::HEADER];
-            segment.extend_from_slice(&options);
-            let header = Header {
-                source_port: port,
-                destination_port: 1,
-                sequence: rng.sequence(),
-                acknowledgement: 2,
-                flags: SYN | ACK,
-            };
-            wire::finish(&mut segment, &header, options.len(), &server, &self.own);
+            self.simple_answer(time, &server, port, 0, &options);
+            let rng = &mut self.script.rng;
             let offered = about(rng, room);
             let data = rng.bytes(offered as usize);
-            let line = Line::new("answer")
-                .u64(time)
-                .bytes(&self.own)
-                .u16(1)
-                .bytes(&server)
-                .u16(port)
-                .u32(1)
-                .u32(0)
-                .bytes(&segment);
-            self.script.call(&line);
             self.simple_open(time, &server, port, &data);
         }
+    }
+
+    /// An answer that acknowledges none of the data sent, then openings that tell whether it
+    /// set a ban: at once and, where bans end, about the end of the one there is or would be.
+    fn unacknowledged(&mut self, theme: &Theme) {
+        let (server, port) = self.target(theme);
+        let time = self.time(theme);
+        let cookie = self.cookie(&server);
+        let rng = &mut self.script.rng;
+        let wanted = answer_sort(rng, &cookie);
+        let options = area_with(rng, &wanted);
+        let sent = rng.pick(&[1, 1, 2, 30, 536, 1460]);
+        self.simple_answer(time, &server, port, sent, &options);
+        self.simple_open(time, &server, port, &[1]);
+        if self.script.rng.percent(theme.ban_ends) {
+            let end = self.ban_end(&server, port).unwrap_or(time + BAN_MS);
+            self.simple_open((end - 1).min(LAST_TIME), &server, port, &[2]);
+            self.simple_open(end.min(LAST_TIME), &server, port, &[3]);
+        }
+    }
+
+    /// A cookie for an answer: any, or now and then the one that is stored.
+    fn cookie(&mut self, server: &[u8]) -> Vec<u8> {
+        let memory = self.script.session.client.memory();
+        let stored = memory.map_or(Vec::new(), |memory| memory.known(server).0.to_vec());
+        let rng = &mut self.script.rng;
+        if !stored.is_empty() && rng.percent(20) {
+            return stored;
+        }
+        let length = rng.pick(&[4, 6, 8, 10, 12, 14, 16]);
+        rng.bytes(length)
+    }
+
+    /// When the live ban of this name ends.
+    fn ban_end(&self, server: &[u8], port: u16) -> Option<u64> {
+        let memory = self.script.session.client.memory()?;
+        let mut bans = memory.bans().filter(|ban| ban.until > memory.clock());
+        bans.find(|ban| ban.address == server && ban.port == port).map(|ban| ban.until)
     }
 
     fn noise(&mut self, theme: &Theme) {
