@@ -9,7 +9,7 @@ use lib.Dec.{eqb}
 use lib.ListN.{length}
 use borrow.Author.Tests.{eq-eqb, ne-eqb, lt-ltb, le-ltb}
 use Rattle.segment.specs.Header.{optionArea}
-use Rattle.segment.specs.Options.{isCookieLength, cookieBytes, firstMss, optionsOf}
+use Rattle.segment.specs.Options.{isCookieLength, cookieBytes, firstMss}
 use Rattle.segment.specs.Write.{optionAllowed, optionLength}
 use Rattle.segment.specs.declared.options.FastOpenOption.{FastOpenOption}
 use Rattle.segment.specs.declared.options.FastOpenOption.the-variants.{Absent, Request, Cookie}
@@ -99,9 +99,9 @@ pub brought-is : (seg : List ℕ) {o : Options} {area cookie : List ℕ} → o �
     → (cookie ≡ cookieIn seg) × (o .mss ≡ mssIn seg)
 brought-is seg eo ea ec = (rw (ec, ea, eo), rw eo)
 
--- no cookie is brought, by the option that counts
-pub cookie-told : (seg : List ℕ) → not (hasCookie (optionsOf seg .fast)) ≡ eqb (length (cookieIn seg)) 0
-cookie-told seg = go (optionsOf seg .fast) (inside-segment seg)
+-- whether no cookie is brought, by the option that counts
+pub cookie-told : (seg : List ℕ) → not (hasCookie (optionsIn seg .fast)) ≡ eqb (length (cookieIn seg)) 0
+cookie-told seg = go (optionsIn seg .fast) (inside-segment seg)
   where
     go : (o : FastOpenOption) → AllInside (length (optionArea seg)) o → not (hasCookie o) ≡ eqb (length (cookieBytes o (optionArea seg))) 0
     go Absent h = refl

@@ -1,4 +1,4 @@
--- Laws for a crate above: a call that is clear, a header that answers an attempt, and what an answer stores. Assumes nothing.
+-- Laws for a crate above: a call that is clear, a header that answers an attempt, what an answer stores, and when it sets a ban. Assumes nothing.
 use Prim.Native.Nat.{ℕ, _≤_, _<_}
 use mathlib.Core.Path.{_≡_, refl}
 use mathlib.Core.Bool.{true, false, not, or-true, and-false}
@@ -56,8 +56,7 @@ cookie-some c e = ne-eqb (length c) 0 (λ z. omega (arith, cookie-length (length
 -- a cookie that comes is the one that is stored then for the address
 cookie-learned : (b c : List ℕ) (mss : Mss) (es : List Entry) → isCookieLength (length c) ≡ true → cookieOf (entryFor b (cacheAfter b c mss es)) ≡ c
 unfolding isFor
-cookie-learned b c mss es e =
-    rw (cookie-some c e, same-bytes-refl b, e) (short (length c) c refl)
+cookie-learned b c mss es e = rw (cookie-some c e, same-bytes-refl b, e) (short (length c) c refl)
 
 pub cookie-stored : (m : Memory) (t : ℕ) (own server : List ℕ) (a : Attempt) (seg : List ℕ) → isCookieLength (length (cookieIn seg)) ≡ true
     → cookieOf (storedFor (after m (answer t own server a seg)) server) ≡ cookieIn seg
