@@ -16,7 +16,7 @@ use Rattle.segment.specs.declared.options.FastOpenOption.the-variants.{Absent, 
 use Rattle.segment.specs.declared.options.Mss.{Mss}
 use Rattle.segment.specs.declared.options.Options.{Options}
 use Rattle.lists.proofs.Bools.{chosen}
-use Rattle.segment.proofs.Cookie.{AllInside, cookie-length, cookie-bytes, inside-segment}
+use Rattle.segment.proofs.Cookie.{AllInside, cookie-length, cookie-length-back, cookie-bytes, inside-segment}
 use Rattle.segment.proofs.Exchange.{allowed-request, allowed-found}
 use Rattle.endpoint.specs.Address.{block, sameName}
 use Rattle.endpoint.specs.declared.address.Family.{Family}
@@ -94,6 +94,10 @@ module _ (e : Entry) {k : Bool} (is : k ≡ isCookieLength (e .len)) where
 length-most : (n : ℕ) → cond (isCookieLength n) n 0 ≤ 16
 length-most n = chosen (λ k. k ≤ 16) (isCookieLength n) _ _ (λ q. cookie-length n q .most) (λ _. omega arith)
 
+-- and not 0
+pub length-some : (n : ℕ) → isCookieLength n ≡ true → eqb n 0 ≡ false
+length-some n e = ne-eqb n 0 (λ z. omega (arith, cookie-length n e .least))
+
 -- an answer's cookie and MSS, from its options and their area
 pub brought-is : (seg : List ℕ) {o : Options} {area cookie : List ℕ} → o ≡ optionsIn seg → area ≡ optionArea seg → cookie ≡ cookieBytes (o .fast) area
     → (cookie ≡ cookieIn seg) × (o .mss ≡ mssIn seg)
@@ -106,7 +110,7 @@ cookie-told seg = go (optionsIn seg .fast) (inside-segment seg)
     go : (o : FastOpenOption) → AllInside (length (optionArea seg)) o → not (hasCookie o) ≡ eqb (length (cookieBytes o (optionArea seg))) 0
     go Absent h = refl
     go Request h = refl
-    go (Cookie at len) h = rw (cookie-bytes (optionArea seg) at len h) (sym (ne-eqb len 0 (λ z. omega (arith, h .size .least))))
+    go (Cookie at len) h = rw (cookie-bytes (optionArea seg) at len h) (sym (length-some len (cookie-length-back len (h .size))))
 
 -- the cookie that an answer brings, and the one that is stored
 pub brought-most : (seg : List ℕ) → length (cookieIn seg) ≤ 16

@@ -15,7 +15,6 @@ use Rattle.segment.specs.declared.header.Header.{Header}
 use Rattle.segment.specs.declared.options.Mss.{Mss}
 use Rattle.segment.specs.declared.options.Mss.the-variants.{Given}
 use Rattle.lists.proofs.Bools.{and-true}
-use Rattle.segment.proofs.Cookie.{cookie-length}
 use Rattle.endpoint.specs.Address.{block}
 use Rattle.endpoint.proofs.Clear.{Passed, every-check}
 use Rattle.lists.proofs.SameBytes.{same-bytes-refl}
@@ -28,6 +27,7 @@ use Rattle.client.specs.Step.{cookieIn, mssIn, cacheAfter, isUnacknowled
 use Rattle.client.specs.declared.outcome.Attempt.{Attempt}
 use Rattle.client.specs.declared.cache.Entry.{Entry}
 use Rattle.client.specs.declared.state.Memory.{Memory}
+use Rattle.client.proofs.After.{length-some}
 
 module _ (m : Memory) (c : Call) where
   -- of a clear call no check applies, and a call is clear where its checks are
@@ -49,14 +49,10 @@ pub between : (a : Attempt) (h : Header) → h .source ≡ a .dest → h .dest �
 unfolding isBetween
 between a h s d = rw (eq-eqb (h .source) (a .dest) s, eq-eqb (h .dest) (a .source) d)
 
--- a cookie of a counted length is not empty
-cookie-some : (c : List ℕ) → isCookieLength (length c) ≡ true → eqb (length c) 0 ≡ false
-cookie-some c e = ne-eqb (length c) 0 (λ z. omega (arith, cookie-length (length c) e .least))
-
 -- a cookie that comes is the one that is stored then for the address
 cookie-learned : (b c : List ℕ) (mss : Mss) (es : List Entry) → isCookieLength (length c) ≡ true → cookieOf (entryFor b (cacheAfter b c mss es)) ≡ c
 unfolding isFor
-cookie-learned b c mss es e = rw (cookie-some c e, same-bytes-refl b, e) (short (length c) c refl)
+cookie-learned b c mss es e = rw (length-some (length c) e, same-bytes-refl b, e) (short (length c) c refl)
 
 pub cookie-stored : (m : Memory) (t : ℕ) (own server : List ℕ) (a : Attempt) (seg : List ℕ) → isCookieLength (length (cookieIn seg)) ≡ true
     → cookieOf (storedFor (after m (answer t own server a seg)) server) ≡ cookieIn seg
@@ -67,7 +63,7 @@ cookie-stored m t own server a seg e = cookie-learned (block server) (cookieIn s
 pub cookie-no-ban : (m : Memory) (t : ℕ) (own server : List ℕ) (a : Attempt) (seg : List ℕ) → isCookieLength (length (cookieIn seg)) ≡ true
     → after m (answer t own server a seg) .bans ≡ m .bans
 unfolding after
-cookie-no-ban m t own server a seg e = rw (cookie-some (cookieIn seg) e, and-false (isUnacknowledged (a .sent) (countIn a (fieldsOf seg))))
+cookie-no-ban m t own server a seg e = rw (length-some (length (cookieIn seg)) e, and-false (isUnacknowledged (a .sent) (countIn a (fieldsOf seg))))
 
 -- without one it is set, where data was sent and none is acknowledged
 pub negative-ban : (m : Memory) (t : ℕ) (own server : List ℕ) (a : Attempt) (seg : List ℕ) → 0 < a .sent → countIn a (fieldsOf seg) ≡ 0 → length (cookieIn seg) ≡ 0

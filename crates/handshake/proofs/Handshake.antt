@@ -1,7 +1,7 @@
 -- The two ends fit. Assumes nothing.
 use Prim.Native.Nat.{ℕ, min}
 use mathlib.Core.Path.{_≡_, ap, sym, _∙_}
-use mathlib.Core.Bool.{Bool, true, false, cond}
+use mathlib.Core.Bool.{Bool, true, false}
 use mathlib.Core.List.{[]}
 use native.Mathlib.Omega.{arith}
 use lib.ListN.{length}
@@ -23,7 +23,7 @@ use Rattle.client.specs.declared.outcome.Event.the-variants.{Answered}
 use Rattle.client.specs.declared.state.Memory.{Memory}
 use Rattle.handshake.specs.Handshake.{Asked, opening, sent, Arrival, arriving, returning, Ends, carriedWith, stored, isBanned, Issued, present, Taken, Later, renewed, current, updated, Admits, CookieRequest, upToEarlyRoom, EarlyData, Outdated, NextOpening, CookieReplaced, Handshake}
 use Rattle.handshake.proofs.Opening.{payload-length, opening-read-by-listener, wire-clear, kind-checked, none-sent, carried-stored, carried, right-cookie}
-use Rattle.handshake.proofs.SynAck.{syn-ack-read-by-client}
+use Rattle.handshake.proofs.SynAck.{cookie-if, syn-ack-read-by-client}
 
 -- an opening after a cookie was stored and no ban set
 module _ (l : Listener) (a : Asked) (m m′ : Memory) (l′ : Listener) (a′ : Asked) (n : NextOpening l a m m′ l′ a′) (bans : m′ .bans ≡ m .bans)
@@ -49,7 +49,7 @@ module _ (m : Memory) (l : Listener) (a : Asked) (e : Ends m l a) where
           iss = w .iss;
         }
 
-    -- it is plain without a right cookie, and where an option counts it gets one
+    -- without a right cookie it is plain, and where an option counts it gets a cookie
     abbrev is-right : Bool
     is-right = right (l .keys) (block (a .own)) (carriedBy (opening m a))
 
@@ -66,7 +66,7 @@ module _ (m : Memory) (l : Listener) (a : Asked) (e : Ends m l a) where
       none-answered : (m′ : Memory) (t : ℕ) → Later m m′ t → client.step m′ (returning m l a h t) .event ≡ Answered 0
       none-answered m′ t g = syn-ack-read-by-client m l a e h taken m′ t g .event ∙ ap (λ (x : Event). Answered (acceptedOf x)) plain-event
 
-    -- so does a request
+    -- a request has no right cookie
     request-read : stored m a ≡ [] → carriedBy (opening m a) ≡ request
     request-read none =
         opening-read-by-listener m l a e .option ∙ ap (λ (t : Bool). carriedWith t (stored m a)) (w .free) ∙ ap (carriedWith false) none
@@ -81,7 +81,7 @@ module _ (m : Memory) (l : Listener) (a : Asked) (e : Ends m l a) where
           kept = syn-ack-read-by-client m l a e h taken m′ t g .kept (fresh wrong (rw (request-read none)));
         }
 
-    -- and a cookie that is right under neither key
+    -- and here the cookie is right under neither key
     cookie-replaced : Outdated m l a → (m′ : Memory) (t : ℕ) → Later m m′ t → CookieReplaced m l a h m′ t
     cookie-replaced out m′ t g =
         let read = carried-stored m l a e (w .free) (λ none. omega (arith, out .some, none-sent m l a e none)) in
@@ -90,7 +90,7 @@ module _ (m : Memory) (l : Listener) (a : Asked) (e : Ends m l a) where
         let synAck = syn-ack-read-by-client m l a e h taken m′ t g in
         record {
           event = plain-event wrong;
-          fresh = synAck .cookie ∙ ap (λ (b : Bool). cond b (current l a) []) new;
+          fresh = cookie-if m l a e h taken true new;
           answered = none-answered wrong m′ t g;
           no-ban = synAck .no-ban new;
           kept = synAck .kept new;

@@ -137,12 +137,14 @@ module _ (m : Memory) (l : Listener) (a : Asked) (e : Ends m l a) (h : Arrival) 
   cookie-is : cookieIn (reply m l a h) ≡ cond (renewed m l a h) (current l a) []
   cookie-is = cookie-read (l .settings .mss) (renewed m l a h) (current l a) (optionsOf (reply m l a h)) (optionArea (reply m l a h)) (read .options) (read .bytes)
 
+  pub cookie-if : (fresh : Bool) → renewed m l a h ≡ fresh → cookieIn (reply m l a h) ≡ cond fresh (current l a) []
+  cookie-if fresh f = cookie-is ∙ ap (λ (b : Bool). cond b (current l a) []) f
+
   -- a fresh one may be stored
   fresh-length : renewed m l a h ≡ true → isCookieLength (length (cookieIn (reply m l a h))) ≡ true
   fresh-length f =
-      let same = cookie-is ∙ ap (λ (b : Bool). cond b (current l a) []) f in
       let eight = cookie-eight (l .keys .present) (block (a .own)) in
-      rw (same, eight) (cookie-length-back 8 (record { least = omega arith; most = omega arith; even = refl }))
+      rw (cookie-if true f, eight) (cookie-length-back 8 (record { least = omega arith; most = omega arith; even = refl }))
 
   module _ (m′ : Memory) (t : ℕ) (g : Later m m′ t) where
     taken : callCheck m′ (returning m l a h t) ≡ Clear
@@ -170,14 +172,14 @@ module _ (m : Memory) (l : Listener) (a : Asked) (e : Ends m l a) (h : Arrival) 
           kept = λ f.
               ap (λ (o : client-outcome.Outcome). stored (o .memory) a) done
               ∙ reading.cookie-stored m′ t (a .own) (a .server) (attempted m a) (reply m l a h) (fresh-length f)
-              ∙ cookie-is ∙ ap (λ (b : Bool). cond b (current l a) []) f;
+              ∙ cookie-if true f;
           no-ban = λ f.
               ap (λ (o : client-outcome.Outcome). o .memory .bans) done
               ∙ reading.cookie-no-ban m′ t (a .own) (a .server) (attempted m a) (reply m l a h) (fresh-length f);
           ban = λ f s z.
               ap (λ (o : client-outcome.Outcome). o .memory .bans) done
               ∙ reading.negative-ban m′ t (a .own) (a .server) (attempted m a) (reply m l a h) s (counted ∙ z)
-              (ap length (cookie-is ∙ ap (λ (b : Bool). cond b (current l a) []) f));
+              (ap length (cookie-if false f));
           size =
               ap (λ (o : client-outcome.Outcome). storedFor (o .memory) (a .server) .mss) done
               ∙ reading.mss-stored m′ t (a .own) (a .server) (attempted m a) (reply m l a h) (l .settings .mss) (ap (λ (o : Options). o .mss) (read .options));
