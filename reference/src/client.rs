@@ -1,6 +1,6 @@
 //! The client's memory: cookies and segment sizes by server, and servers to leave alone.
 
-use crate::wire::{self, Header, Refusal, Segment, ACK, FIN, RST, SYN};
+use crate::wire::{self, Coding, Codings, Header, Refusal, Segment, ACK, FIN, RST, SYN};
 
 pub const PLACES: usize = 32;
 pub const LEAST_OUTPUT: usize = 1504;
@@ -95,9 +95,7 @@ impl Client {
         let mut sent: &[u8] = &[];
         if !memory.is_banned(attempt.server, attempt.server_port, time) {
             let (cookie, size) = memory.known(attempt.server);
-            options.push(wire::FAST_OPEN);
-            options.push(2 + cookie.len() as u8);
-            options.extend_from_slice(cookie);
+            options.extend(Coding::New.option(cookie));
             options.resize(options.len().next_multiple_of(4), wire::NO_OPERATION);
             if !cookie.is_empty() {
                 let room = size.saturating_sub(options.len());
@@ -121,13 +119,15 @@ impl Client {
         Ok(Opened { sent: sent.len(), written })
     }
 
-    /// Learns from the answer to an attempt; says how many bytes it acknowledges.
+    /// Learns from the answer to an attempt, its options read under a setting of its own; says
+    /// how many bytes it acknowledges.
     pub fn answer(
         &mut self,
         time: u64,
         attempt: &Attempt,
         sent: u32,
         segment: &[u8],
+        codings: Codings,
     ) -> Result<u32, Refusal> {
         let memory = self.at(time)?;
         memory.check_family(attempt.own)?;
@@ -150,7 +150,7 @@ impl Client {
             return Err(Refusal::Number);
         }
 
-        let options = wire::read_options(segment.options());
+        let options = wire::read_options(segment.options(), codings);
         let cookie = options.fast_open.map_or(&[][..], |option| option.cookie);
         memory.store(attempt.server, cookie, options.mss);
         // RFC 7413's negative response, unless it brings a cookie: then only ours was out of date.

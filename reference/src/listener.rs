@@ -1,7 +1,7 @@
 //! The listener: 64 connections between their opening and their hand-over.
 
 use crate::aes::Schedule;
-use crate::wire::{self, Header, Options, Refusal, Segment, ACK, FIN, RST, SYN};
+use crate::wire::{self, Coding, Codings, Header, Options, Refusal, Segment, ACK, FIN, RST, SYN};
 
 pub const SLOTS: usize = 64;
 pub const LEAST_OUTPUT: usize = 36;
@@ -104,9 +104,13 @@ pub struct Settings {
     pub room: u32,
     pub hold: u32,
     pub mss: u32,
+    pub codings: Codings,
 }
 
 impl Settings {
+    const FRESH: Settings =
+        Settings { on: false, limit: 0, room: 0, hold: 0, mss: 536, codings: Codings::New };
+
     fn in_range(&self) -> bool {
         self.limit <= 64 && self.room <= 1460 && self.hold <= 65_535 && (536..=1460).contains(&self.mss)
     }
@@ -151,7 +155,7 @@ impl Listener {
                 own: block(own),
                 family: own.len(),
                 port,
-                settings: Settings { on: false, limit: 0, room: 0, hold: 0, mss: 536 },
+                settings: Settings::FRESH,
                 present: Schedule::expand(key),
                 previous: None,
                 clock: 0,
@@ -318,7 +322,11 @@ impl Front {
         let place = survey.free.ok_or(Refusal::TableFull)?;
 
         let allowed = self.settings.on && survey.pending < self.settings.limit;
-        let options = if allowed { wire::read_options(segment.options()) } else { Options::default() };
+        let options = if allowed {
+            wire::read_options(segment.options(), self.settings.codings)
+        } else {
+            Options::default()
+        };
         let mut early = false;
         let mut fresh = None;
         if let Some(option) = options.fast_open {
@@ -328,7 +336,7 @@ impl Front {
                 || self.previous.as_ref().is_some_and(|key| {
                     option.cookie.len() == COOKIE && option.cookie == cookie_for(key, name.block)
                 });
-            fresh = (!right_now).then_some(present);
+            fresh = (!right_now).then_some((option.coding, present));
         }
 
         let accepted = if early { segment.payload().len().min(self.settings.room as usize) } else { 0 };
@@ -375,22 +383,21 @@ impl Front {
         Ok((slot, expected))
     }
 
-    /// Writes a SYN-ACK, with a cookie if one is given, and says how long it is.
+    /// Writes a SYN-ACK, with a cookie in its coding if one is given, and says how long it is.
     fn answer(
         &self,
         name: Name,
         iss: u32,
         acknowledgement: u32,
-        cookie: Option<[u8; COOKIE]>,
+        fresh: Option<(Coding, [u8; COOKIE])>,
         out: &mut [u8],
     ) -> usize {
-        let written = if cookie.is_some() { COOKIE_ANSWER } else { SHORT_ANSWER };
+        let written = if fresh.is_some() { COOKIE_ANSWER } else { SHORT_ANSWER };
         let segment = &mut out[..written];
         segment[20..24].copy_from_slice(&wire::mss_option(self.settings.mss as u16));
-        if let Some(cookie) = cookie {
-            segment[24..26].copy_from_slice(&[wire::FAST_OPEN, 2 + COOKIE as u8]);
-            segment[26..34].copy_from_slice(&cookie);
-            segment[34..36].fill(wire::NO_OPERATION);
+        if let Some((coding, cookie)) = fresh {
+            let option = coding.write(&cookie, &mut segment[24..]);
+            segment[24 + option..].fill(wire::NO_OPERATION);
         }
         let header = Header {
             source_port: self.port,

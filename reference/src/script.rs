@@ -5,7 +5,7 @@ use std::io::{self, BufRead, Write};
 
 use crate::client::{Attempt, Client};
 use crate::listener::{accepted_part, Kind, Listener, Settings, Verdict};
-use crate::wire::Refusal;
+use crate::wire::{Codings, Refusal};
 
 pub const LONGEST_LINE: usize = 8192;
 pub const MOST_OUTPUT: u64 = 2048;
@@ -126,6 +126,15 @@ impl<'a> Words<'a> {
         word.chunks_exact(2).map(|pair| Some(digit(pair[0])? << 4 | digit(pair[1])?)).collect()
     }
 
+    /// The coding setting, which a line may leave out.
+    fn codings(&mut self) -> Option<Codings> {
+        match self.word() {
+            None | Some(b"new") => Some(Codings::New),
+            Some(b"both") => Some(Codings::Both),
+            Some(_) => None,
+        }
+    }
+
     fn end(&self) -> Option<()> {
         (self.next == self.words.len()).then_some(())
     }
@@ -209,8 +218,9 @@ impl Session for ListenerSession {
                 };
                 let (limit, room) = (words.u32()?, words.u32()?);
                 let (hold, mss) = (words.u32()?, words.u32()?);
+                let codings = words.codings()?;
                 words.end()?;
-                let settings = Settings { on, limit, room, hold, mss };
+                let settings = Settings { on, limit, room, hold, mss, codings };
                 let result = self.listener.settings(time, settings);
                 Some(self.by_rote(result.map(|()| 0), &[]))
             }
@@ -322,9 +332,10 @@ impl Session for ClientSession {
                 let (own, own_port) = (words.bytes()?, words.u16()?);
                 let (server, server_port) = (words.bytes()?, words.u16()?);
                 let (ours, sent, segment) = (words.u32()?, words.u32()?, words.bytes()?);
+                let codings = words.codings()?;
                 words.end()?;
                 let attempt = Attempt { own: &own, own_port, server: &server, server_port, ours };
-                let result = self.client.answer(time, &attempt, sent, &segment);
+                let result = self.client.answer(time, &attempt, sent, &segment, codings);
                 Some(client_line(result.map(|count| (count, 0)), &[]))
             }
             b"failed" => {

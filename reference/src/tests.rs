@@ -7,13 +7,18 @@ use crate::generate;
 use crate::listener::{accepted_part, cookie, Kind, Listener, Reply, Settings, Verdict, LEAST_OUTPUT};
 use crate::script::{self, ClientSession, ListenerSession, Session};
 use crate::summary::Summary;
-use crate::wire::{self, Header, Refusal, ACK, FIN, LAST_TIME, RST, SYN};
+use crate::wire::{self, Coding, Codings, Header, Refusal, ACK, FIN, LAST_TIME, RST, SYN};
 
 const KEY: [u8; 16] = [0, 1, 2, 3, 4, 5, 6, 7, 8, 9, 10, 11, 12, 13, 14, 15];
 const OWN: [u8; 4] = [192, 0, 2, 2];
 const PEER: [u8; 4] = [192, 0, 2, 1];
 const PORT: u16 = 40_000;
-const SETTINGS: Settings = Settings { on: true, limit: 8, room: 1460, hold: 0, mss: 1460 };
+const SETTINGS: Settings =
+    Settings { on: true, limit: 8, room: 1460, hold: 0, mss: 1460, codings: Codings::New };
+const BOTH: Settings = Settings { codings: Codings::Both, ..SETTINGS };
+/// The codings with the settings that count them.
+const COUNTED: [(Coding, Settings); 3] =
+    [(Coding::New, SETTINGS), (Coding::New, BOTH), (Coding::Older, BOTH)];
 
 fn seg(port: u16, seq: u32, ack: u32, flags: u8, options: &[u8], payload: &[u8]) -> Vec<u8> {
     let mut segment = vec![0; 20];
@@ -25,23 +30,41 @@ fn seg(port: u16, seq: u32, ack: u32, flags: u8, options: &[u8], payload: &[u8])
     segment
 }
 
-fn fast_open(cookie: &[u8]) -> Vec<u8> {
-    let mut options = vec![34, 2 + cookie.len() as u8];
+/// An area with just the Fast Open option with this cookie.
+fn coded(coding: Coding, cookie: &[u8]) -> Vec<u8> {
+    let mut options = match coding {
+        Coding::New => vec![34, 2 + cookie.len() as u8],
+        Coding::Older => vec![254, 4 + cookie.len() as u8, 0xf9, 0x89],
+    };
     options.extend_from_slice(cookie);
     options.resize(options.len().next_multiple_of(4), 1);
     options
 }
 
+fn fast_open(cookie: &[u8]) -> Vec<u8> {
+    coded(Coding::New, cookie)
+}
+
+fn older(cookie: &[u8]) -> Vec<u8> {
+    coded(Coding::Older, cookie)
+}
+
 struct Box64 {
     listener: Listener,
     out: [u8; LEAST_OUTPUT],
+    /// In which openings are written.
+    coding: Coding,
 }
 
 impl Box64 {
     fn with(settings: Settings) -> Box64 {
+        Box64::coded(Coding::New, settings)
+    }
+
+    fn coded(coding: Coding, settings: Settings) -> Box64 {
         let mut listener = Listener::start(&OWN, 443, &KEY).unwrap();
         listener.settings(0, settings).unwrap();
-        Box64 { listener, out: [0xa5; LEAST_OUTPUT] }
+        Box64 { listener, out: [0xa5; LEAST_OUTPUT], coding }
     }
 
     fn segment(&mut self, time: u64, ours: u32, segment: &[u8]) -> Result<Reply, Refusal> {
@@ -53,7 +76,16 @@ impl Box64 {
     }
 
     fn open(&mut self, port: u16, irs: u32, cookie: &[u8], payload: &[u8]) -> Result<Reply, Refusal> {
-        self.segment(0, 1000, &seg(port, irs, 0, SYN, &fast_open(cookie), payload))
+        self.open_with(port, irs, &coded(self.coding, cookie), payload)
+    }
+
+    fn open_with(&mut self, port: u16, irs: u32, options: &[u8], payload: &[u8]) -> Result<Reply, Refusal> {
+        self.segment(0, 1000, &seg(port, irs, 0, SYN, options, payload))
+    }
+
+    fn resend(&mut self, port: u16) -> usize {
+        self.out.fill(0xa5);
+        self.listener.resend(0, &PEER, port, &mut self.out).unwrap()
     }
 
     fn acknowledgement(&self) -> u32 {
@@ -103,7 +135,11 @@ fn rows_3_to_5_window() {
 
 #[test]
 fn rows_6_to_12_options() {
-    let cookie = |area: &'static [u8]| wire::read_options(area).fast_open.map(|option| option.cookie);
+    let cookie = |area: &'static [u8]| {
+        let used = |codings| wire::read_options(area, codings).fast_open;
+        assert_eq!(used(Codings::New), used(Codings::Both), "no difference without kind 254");
+        used(Codings::New).map(|option| option.cookie)
+    };
     assert_eq!(cookie(&[34, 2]), Some(&[][..]));
     assert_eq!(cookie(&[34, 3, 0]), None);
     assert_eq!(cookie(&[34, 3, 0, 34, 2]), Some(&[][..]), "skipped, not the end");
@@ -120,20 +156,187 @@ fn rows_6_to_12_options() {
 
 #[test]
 fn rows_13_to_15_limit() {
-    let mut front = Box64::with(Settings { limit: 0, ..SETTINGS });
-    let reply = front.open(PORT, 1, &right(), b"x");
-    assert_eq!(verdict(reply), Some(Verdict::Plain));
-    assert_eq!(reply.unwrap().written, 24);
+    for (coding, settings) in COUNTED {
+        let mut front = Box64::coded(coding, Settings { limit: 0, ..settings });
+        let reply = front.open(PORT, 1, &right(), b"x");
+        assert_eq!(verdict(reply), Some(Verdict::Plain));
+        assert_eq!(reply.unwrap().written, 24);
 
-    let mut front = Box64::with(Settings { limit: 2, ..SETTINGS });
-    assert_eq!(verdict(front.open(PORT, 1, &right(), b"x")), Some(Verdict::Early));
-    assert_eq!(front.listener.pending(), 1);
-    assert_eq!(verdict(front.open(PORT + 1, 1, &right(), b"x")), Some(Verdict::Early));
-    assert_eq!(front.listener.pending(), 2);
-    let reply = front.open(PORT + 2, 1, &right(), b"x");
-    assert_eq!(verdict(reply), Some(Verdict::Plain));
-    assert_eq!(reply.unwrap().written, 24);
-    assert_eq!(front.listener.pending(), 2);
+        let mut front = Box64::coded(coding, Settings { limit: 2, ..settings });
+        assert_eq!(verdict(front.open(PORT, 1, &right(), b"x")), Some(Verdict::Early));
+        assert_eq!(front.listener.pending(), 1);
+        assert_eq!(verdict(front.open(PORT + 1, 1, &right(), b"x")), Some(Verdict::Early));
+        assert_eq!(front.listener.pending(), 2);
+        let reply = front.open(PORT + 2, 1, &right(), b"x");
+        assert_eq!(verdict(reply), Some(Verdict::Plain));
+        assert_eq!(reply.unwrap().written, 24);
+        assert_eq!(front.listener.pending(), 2);
+    }
+}
+
+#[test]
+fn rows_of_the_older_coding() {
+    // The option used when both are read, and under new only: its coding, where its cookie
+    // begins, and the cookie.
+    const EIGHT: &[u8] = &[1, 2, 3, 4, 5, 6, 7, 8];
+    const NO: &[u8] = &[];
+    let (new, older) = (Coding::New, Coding::Older);
+    for (area, both, new_only) in [
+        (&[254, 4, 0xf9, 0x89][..], Some((older, 4, NO)), None),
+        (&[254, 12, 0xf9, 0x89, 1, 2, 3, 4, 5, 6, 7, 8], Some((older, 4, EIGHT)), None),
+        (&[254, 6, 0xf9, 0x89, 1, 2], None, None),
+        (&[254, 6, 0xf9, 0x89, 1, 2, 34, 2], Some((new, 8, NO)), Some((new, 8, NO))),
+        (&[254, 6, 0, 0, 1, 2, 254, 4, 0, 0, 254, 3, 0xf9], None, None),
+        (&[254, 6, 0, 0, 1, 2, 254, 4, 0, 0, 254, 3, 0xf9, 34, 2], Some((new, 15, NO)), Some((new, 15, NO))),
+        (&[254, 4, 0xf9, 0x89, 34, 10, 1, 2, 3, 4, 5, 6, 7, 8], Some((older, 4, NO)), Some((new, 6, EIGHT))),
+        (&[34, 10, 1, 2, 3, 4, 5, 6, 7, 8, 254, 4, 0xf9, 0x89], Some((new, 2, EIGHT)), Some((new, 2, EIGHT))),
+        (&[254, 4, 0xf9, 0x88], None, None),
+        (&[254, 4, 0xf8, 0x89], None, None),
+        (&[254, 5, 0xf9, 0x89, 1], None, None),
+        (&[254, 7, 0xf9, 0x89, 1, 2, 3], None, None),
+        (&[254, 4, 0xf9], None, None),
+        (&[1, 1, 1, 254], None, None),
+        (&[254, 2, 34, 2], Some((new, 4, NO)), Some((new, 4, NO))),
+    ] {
+        let used = |codings| {
+            wire::read_options(area, codings).fast_open.map(|used| (used.coding, used.at, used.cookie))
+        };
+        assert_eq!(used(Codings::Both), both, "{area:?}");
+        assert_eq!(used(Codings::New), new_only, "{area:?}");
+    }
+}
+
+#[test]
+fn cookie_lengths_of_the_older_coding() {
+    for (length, cookie) in [(4, 0), (8, 4), (10, 6), (12, 8), (14, 10), (16, 12), (18, 14), (20, 16)] {
+        let area = older(&vec![7; cookie]);
+        assert_eq!(area[1], length);
+        let used = wire::read_options(&area, Codings::Both).fast_open.unwrap();
+        assert_eq!((used.coding, used.cookie.len()), (Coding::Older, cookie));
+        let mut front = Box64::coded(Coding::Older, BOTH);
+        let reply = front.open(PORT, 1, &vec![7; cookie], b"x").unwrap();
+        assert_eq!(reply, Reply { kind: Kind::Opening(Verdict::Plain), accepted: 0, written: 36 });
+    }
+    for length in [5, 6, 7, 9, 11, 17, 19, 21, 22, 24, 36] {
+        let mut front = Box64::coded(Coding::Older, BOTH);
+        let reply = front.open(PORT, 1, &vec![7; length - 4], b"x").unwrap();
+        assert_eq!(reply, Reply { kind: Kind::Opening(Verdict::Plain), accepted: 0, written: 24 });
+    }
+}
+
+/// The answer to an opening with number 7 from `PORT`, without a cookie and with one in the
+/// older coding.
+const SHORT: [u8; 24] = [
+    0x01, 0xbb, 0x9c, 0x40, 0x00, 0x00, 0x03, 0xe8, 0x00, 0x00, 0x00, 0x08, 0x60, 0x12, 0xff, 0xff, 0x72,
+    0x27, 0x00, 0x00, 0x02, 0x04, 0x05, 0xb4,
+];
+const OLDER_COOKIE: [u8; 36] = [
+    0x01, 0xbb, 0x9c, 0x40, 0x00, 0x00, 0x03, 0xe8, 0x00, 0x00, 0x00, 0x08, 0x90, 0x12, 0xff, 0xff, 0x06,
+    0x9f, 0x00, 0x00, 0x02, 0x04, 0x05, 0xb4, 0xfe, 0x0c, 0xf9, 0x89, 0xb5, 0x2d, 0x0a, 0x13, 0xdd, 0xe9,
+    0xa6, 0xba,
+];
+
+#[test]
+fn answers_in_the_older_coding() {
+    for offered in [&[][..], &[7; 8], &[7; 16]] {
+        let mut front = Box64::coded(Coding::Older, BOTH);
+        let reply = front.open(PORT, 7, offered, b"x").unwrap();
+        assert_eq!(reply, Reply { kind: Kind::Opening(Verdict::Plain), accepted: 0, written: 36 });
+        assert_eq!(front.out, OLDER_COOKIE);
+        let reply = front.open(PORT, 7, offered, b"x").unwrap();
+        assert_eq!(reply, Reply { kind: Kind::Opening(Verdict::Repeat), accepted: 0, written: 24 });
+        assert_eq!(front.out[..24], SHORT);
+        assert_eq!(front.resend(PORT), 24);
+        assert_eq!(front.out[..24], SHORT);
+    }
+}
+
+#[test]
+fn the_option_used_decides() {
+    let (wrong, right) = ([7; 8], right());
+    let skipped = [&[254, 6, 0xf9, 0x89, 7, 7, 1, 1][..], &[34, 4, 7, 7]];
+    let other = [&[254, 12, 0xf9, 0x88], &right[..]].concat();
+    let unmarked = [&[254, 10], &right[..], &[1, 1]].concat();
+    let marked = [&[34, 12, 0xf9, 0x89], &right[..]].concat();
+    // The options of an opening, its verdict when both are read, and what follows the size in
+    // its answer.
+    for (options, early, fresh) in [
+        ([older(&wrong), fast_open(&right)], false, older(&right)),
+        ([fast_open(&wrong), older(&right)], false, fast_open(&right)),
+        ([older(&[]), fast_open(&right)], false, older(&right)),
+        ([fast_open(&[]), older(&right)], false, fast_open(&right)),
+        ([older(&right), fast_open(&wrong)], true, vec![]),
+        ([fast_open(&right), older(&wrong)], true, vec![]),
+        ([skipped[0].to_vec(), fast_open(&right)], true, vec![]),
+        ([skipped[1].to_vec(), older(&right)], true, vec![]),
+        ([skipped[0].to_vec(), older(&right)], true, vec![]),
+        ([skipped[0].to_vec(), skipped[1].to_vec()], false, vec![]),
+        ([other.clone(), older(&right)], true, vec![]),
+        ([other, fast_open(&wrong)], false, fast_open(&right)),
+        ([unmarked, vec![]], false, vec![]),
+        ([marked, older(&right)], false, fast_open(&right)),
+    ] {
+        let mut front = Box64::with(BOTH);
+        let reply = front.open_with(PORT, 1, &options.concat(), b"x").unwrap();
+        let verdict = if early { Verdict::Early } else { Verdict::Plain };
+        assert_eq!(reply.kind, Kind::Opening(verdict), "{options:?}");
+        assert_eq!(front.out[24..reply.written], fresh, "{options:?}");
+        assert_eq!(front.listener.pending(), early.into());
+    }
+}
+
+#[test]
+fn the_older_coding_under_new_only() {
+    let mut front = Box64::coded(Coding::Older, SETTINGS);
+    for (port, offered) in [(PORT, &right()[..]), (PORT + 1, &[7; 8]), (PORT + 2, &[])] {
+        let reply = front.open(port, 7, offered, b"x").unwrap();
+        assert_eq!(reply, Reply { kind: Kind::Opening(Verdict::Plain), accepted: 0, written: 24 });
+    }
+    // Kind 34 behind it is the one used.
+    let behind = |cookie: &[u8]| [older(&[7; 8]), fast_open(cookie)].concat();
+    let reply = front.open_with(PORT + 3, 7, &behind(&right()), b"x").unwrap();
+    assert_eq!(reply, Reply { kind: Kind::Opening(Verdict::Early), accepted: 1, written: 24 });
+    let reply = front.open_with(PORT + 4, 7, &behind(&[]), b"x").unwrap();
+    assert_eq!(reply, Reply { kind: Kind::Opening(Verdict::Plain), accepted: 0, written: 36 });
+    assert_eq!(front.out[24..], fast_open(&right()));
+}
+
+#[test]
+fn the_coding_setting_changes() {
+    let started = Listener::start(&OWN, 443, &KEY).unwrap();
+    assert_eq!(started.front().unwrap().current_settings().codings, Codings::New, "when fresh");
+
+    let verdict_of = |front: &mut Box64, port| verdict(front.open(port, 7, &right(), b"x")).unwrap();
+    for (before, after, first, then) in
+        [(BOTH, SETTINGS, Verdict::Early, Verdict::Plain), (SETTINGS, BOTH, Verdict::Plain, Verdict::Early)]
+    {
+        let mut front = Box64::coded(Coding::Older, before);
+        assert_eq!(verdict_of(&mut front, PORT), first);
+        // A refused call leaves the coding as it is.
+        assert_eq!(front.listener.settings(0, Settings { mss: 0, ..after }), Err(Refusal::Range));
+        assert_eq!(verdict_of(&mut front, PORT + 1), first);
+        let pending = front.listener.pending();
+        front.listener.settings(0, after).unwrap();
+
+        // What was opened stays as it is.
+        let reply = front.open(PORT, 7, &right(), b"x").unwrap();
+        assert_eq!(reply, Reply { kind: Kind::Opening(Verdict::Repeat), accepted: 0, written: 24 });
+        let accepted = u32::from(first == Verdict::Early);
+        assert_eq!(front.acknowledgement(), 8 + accepted);
+        let repeat = front.out;
+        assert_eq!(front.resend(PORT), 24);
+        assert_eq!(front.out, repeat);
+        assert_eq!(front.listener.pending(), pending);
+        assert_eq!(verdict_of(&mut front, PORT + 2), then);
+        let completion = seg(PORT, 8 + accepted, 1001, ACK, &[], &[]);
+        assert_eq!(front.segment(0, 0, &completion).unwrap().kind, Kind::Completion);
+    }
+    // A plain one that asked in the older coding is answered without a cookie when repeated.
+    let mut front = Box64::coded(Coding::Older, SETTINGS);
+    front.open(PORT, 7, &[], b"").unwrap();
+    front.listener.settings(0, BOTH).unwrap();
+    assert_eq!(front.open(PORT, 7, &[], b"").unwrap().written, 24);
+    assert_eq!(front.out[..24], SHORT);
 }
 
 #[test]
@@ -164,27 +367,28 @@ fn accepted_part_fits_the_segment() {
 
 #[test]
 fn keys_turn() {
-    let other = [9; 16];
-    let mut front = Box64::with(SETTINGS);
-    front.listener.key(0, &other).unwrap();
-    // Under the previous key: early, and replaced at once.
-    let reply = front.open(PORT, 1, &right(), b"x").unwrap();
-    assert_eq!(reply, Reply { kind: Kind::Opening(Verdict::Early), accepted: 1, written: 36 });
-    assert_eq!(front.out[24..26], [34, 10]);
-    assert_eq!(front.out[26..34], cookie(&other, &PEER));
-    assert_eq!(front.out[34..36], [1, 1]);
-    let reply = front.open(PORT + 1, 1, &cookie(&other, &PEER), b"x").unwrap();
-    assert_eq!((reply.accepted, reply.written), (1, 24));
-    // Two keys back: wrong, so plain with a new cookie.
-    front.listener.key(0, &[8; 16]).unwrap();
-    let reply = front.open(PORT + 2, 1, &right(), b"x").unwrap();
-    assert_eq!(reply, Reply { kind: Kind::Opening(Verdict::Plain), accepted: 0, written: 36 });
-    // A request too; with no option, or when off, there is no cookie.
-    assert_eq!(front.open(PORT + 3, 1, &[], b"x").unwrap().written, 36);
-    assert_eq!(front.segment(0, 1, &seg(PORT + 4, 1, 0, SYN, &[], b"x")).unwrap().written, 24);
-    front.listener.settings(0, Settings { on: false, ..SETTINGS }).unwrap();
-    let reply = front.open(PORT + 5, 1, &cookie(&[8; 16], &PEER), b"x").unwrap();
-    assert_eq!(reply, Reply { kind: Kind::Opening(Verdict::Plain), accepted: 0, written: 24 });
+    let (other, third) = ([9; 16], [8; 16]);
+    for (coding, settings) in COUNTED {
+        let mut front = Box64::coded(coding, settings);
+        front.listener.key(0, &other).unwrap();
+        // Under the previous key: early, and replaced at once.
+        let reply = front.open(PORT, 1, &right(), b"x").unwrap();
+        assert_eq!(reply, Reply { kind: Kind::Opening(Verdict::Early), accepted: 1, written: 36 });
+        assert_eq!(front.out[24..], coded(coding, &cookie(&other, &PEER)));
+        let reply = front.open(PORT + 1, 1, &cookie(&other, &PEER), b"x").unwrap();
+        assert_eq!((reply.accepted, reply.written), (1, 24));
+        // Two keys back: wrong, so plain with a new cookie.
+        front.listener.key(0, &third).unwrap();
+        let reply = front.open(PORT + 2, 1, &right(), b"x").unwrap();
+        assert_eq!(reply, Reply { kind: Kind::Opening(Verdict::Plain), accepted: 0, written: 36 });
+        assert_eq!(front.out[24..], coded(coding, &cookie(&third, &PEER)));
+        // A request too; with no option, or when off, there is no cookie.
+        assert_eq!(front.open(PORT + 3, 1, &[], b"x").unwrap().written, 36);
+        assert_eq!(front.segment(0, 1, &seg(PORT + 4, 1, 0, SYN, &[], b"x")).unwrap().written, 24);
+        front.listener.settings(0, Settings { on: false, ..settings }).unwrap();
+        let reply = front.open(PORT + 5, 1, &cookie(&third, &PEER), b"x").unwrap();
+        assert_eq!(reply, Reply { kind: Kind::Opening(Verdict::Plain), accepted: 0, written: 24 });
+    }
 }
 
 #[test]
@@ -344,6 +548,8 @@ fn times() {
 struct Caller {
     client: Client,
     out: Vec<u8>,
+    /// Under which answers are read.
+    codings: Codings,
 }
 
 fn attempt(server: &[u8], port: u16) -> Attempt<'_> {
@@ -356,7 +562,7 @@ fn server(n: u8) -> [u8; 4] {
 
 impl Caller {
     fn new() -> Caller {
-        Caller { client: Client::start(4).unwrap(), out: vec![0xa5; CLIENT_OUTPUT] }
+        Caller { client: Client::start(4).unwrap(), out: vec![0xa5; CLIENT_OUTPUT], codings: Codings::New }
     }
 
     /// Opens with ten bytes on offer; gives the written length.
@@ -381,7 +587,7 @@ impl Caller {
     ) -> Result<u32, Refusal> {
         let from = server(n);
         let segment = answer(&from, &PEER, options, acknowledged);
-        self.client.answer(time, &attempt(&from, 443), sent, &segment)
+        self.client.answer(time, &attempt(&from, 443), sent, &segment, self.codings)
     }
 }
 
@@ -426,7 +632,7 @@ fn goes(family: usize, size: Option<u16>, cookie: usize, offered: usize) -> usiz
     let mut options = size.map_or(Vec::new(), |size| wire::mss_option(size).to_vec());
     options.extend_from_slice(&cookie);
     let mut client = Client::start(family as u64).unwrap();
-    client.answer(0, &attempt, 0, &answer(&server, &own, &options, 10)).unwrap();
+    client.answer(0, &attempt, 0, &answer(&server, &own, &options, 10), Codings::New).unwrap();
 
     let mut out = [0xa5; CLIENT_OUTPUT];
     let opened = client.open(0, &attempt, 1460, &vec![7; offered], &mut out).unwrap();
@@ -501,11 +707,10 @@ fn early(cookie: &[u8]) -> Vec<u8> {
     [fast_open(cookie), vec![7; 10]].concat()
 }
 
-#[test]
-fn an_answer_with_a_cookie_sets_no_ban() {
-    let [old, new] = [vec![9; 8], vec![3; 8]];
-    let [request, skipped, again, cookie] = [&[][..], &[3; 7], &old, &new].map(fast_open);
-    // The options of an answer, and the cookie it brings.
+/// The options of an answer in a coding, and the cookie that it brings if that coding counts.
+fn answers_in(coding: Coding, old: &[u8], new: &[u8]) -> Vec<(Vec<u8>, Option<Vec<u8>>)> {
+    let (old, new) = (old.to_vec(), new.to_vec());
+    let [request, skipped, again, cookie] = [&[][..], &[3; 7], &old, &new].map(|c| coded(coding, c));
     let mut answers = vec![
         (vec![], None),
         (vec![2, 4, 5, 0xb4], None),
@@ -515,21 +720,49 @@ fn an_answer_with_a_cookie_sets_no_ban() {
         ([&skipped[..], &cookie].concat(), Some(new.clone())),
         ([&cookie[..], &request].concat(), Some(new.clone())),
         ([&cookie[..], &again].concat(), Some(new)),
-        (again, Some(old.clone())),
+        (again, Some(old)),
     ];
-    for length in 0..=38 {
+    for length in 0..=40 - coding.prefix() {
         let counted = (4..=16).contains(&length) && length % 2 == 0;
-        answers.push((fast_open(&vec![3; length]), counted.then(|| vec![3; length])));
+        answers.push((coded(coding, &vec![3; length]), counted.then(|| vec![3; length])));
     }
-    for (options, brought) in answers {
-        let stored = brought.as_ref().unwrap_or(&old);
+    answers
+}
+
+#[test]
+fn an_answer_with_a_cookie_sets_no_ban() {
+    let (old, new) = ([9; 8], [3; 8]);
+    // Answers, and the cookie each brings.
+    let mut answers = Vec::new();
+    for (coding, settings) in COUNTED {
+        let brought = answers_in(coding, &old, &new).into_iter();
+        answers.extend(brought.map(|(options, brought)| (options, settings.codings, brought)));
+    }
+    let unknown = answers_in(Coding::Older, &old, &new).into_iter();
+    answers.extend(unknown.map(|(options, _)| (options, Codings::New, None)));
+    let [skipped, other] = [[254, 6, 0xf9, 0x89, 3, 3, 1, 1], [254, 8, 0xf9, 0x88, 3, 3, 3, 3]];
+    for (first, both, new_only) in [
+        (&skipped[..], Some(new.to_vec()), Some(new.to_vec())),
+        (&other, Some(new.to_vec()), Some(new.to_vec())),
+        (&older(&[]), None, Some(new.to_vec())),
+        (&older(&[4; 16]), Some(vec![4; 16]), Some(new.to_vec())),
+    ] {
+        let options = [first, &fast_open(&new)].concat();
+        answers.push((options.clone(), Codings::Both, both));
+        answers.push((options, Codings::New, new_only));
+    }
+    answers.push(([fast_open(&[]), older(&new)].concat(), Codings::Both, None));
+    answers.push(([&[34, 4, 3, 3], &older(&new)[..]].concat(), Codings::Both, Some(new.to_vec())));
+    for (options, codings, brought) in answers {
+        let stored = brought.as_deref().unwrap_or(&old);
         for (sent, acknowledged) in [(0, 0), (1, 0), (1460, 0), (1, 1), (5, 1), (5, 5)] {
             let mut caller = Caller::new();
             caller.learn(0, 1, &fast_open(&old), 0, 0).unwrap();
+            caller.codings = codings;
             assert_eq!(caller.learn(0, 1, &options, sent, acknowledged), Ok(acknowledged));
             let banned = sent > 0 && acknowledged == 0 && brought.is_none();
             let expected = if banned { vec![] } else { early(stored) };
-            assert_eq!(caller.opening(0, 1, 443), expected, "{options:?} {sent} {acknowledged}");
+            assert_eq!(caller.opening(0, 1, 443), expected, "{options:?} {codings:?} {sent} {acknowledged}");
             assert_eq!(caller.opening(0, 1, 444), early(stored), "a ban goes by port, a cookie doesn't");
         }
     }
@@ -568,8 +801,76 @@ fn handshake(caller: &mut Caller, front: &mut Box64, own_port: u16) -> (Option<V
     let opened = caller.client.open(0, &attempt, 1460, &[7; 10], &mut caller.out).unwrap();
     let reply = front.segment(0, 1000, &caller.out[..opened.written]);
     let written = reply.unwrap().written;
-    let acknowledged = caller.client.answer(0, &attempt, opened.sent as u32, &front.out[..written]);
+    let answer = &front.out[..written];
+    let acknowledged = caller.client.answer(0, &attempt, opened.sent as u32, answer, caller.codings);
     (verdict(reply), acknowledged.unwrap())
+}
+
+/// An opening that asks in the older coding, and its answer shown to a client that reads
+/// answers under this setting.
+fn asked_in_the_older_coding(codings: Codings) -> (Caller, Box64) {
+    let mut caller = Caller { codings, ..Caller::new() };
+    let mut front = Box64::coded(Coding::Older, BOTH);
+    let attempt = Attempt { ours: 7, ..attempt(&OWN, 443) };
+    let reply = front.open(PORT, attempt.ours, &[], &[]).unwrap();
+    assert_eq!(front.out[..reply.written], OLDER_COOKIE);
+    assert_eq!(caller.client.answer(0, &attempt, 0, &front.out, codings), Ok(0));
+    (caller, front)
+}
+
+#[test]
+fn a_cookie_learnt_in_the_older_coding() {
+    // It is the same cookie, and goes out in kind 34, whichever codings the front reads.
+    for settings in [SETTINGS, BOTH] {
+        let (mut caller, mut front) = asked_in_the_older_coding(Codings::Both);
+        front.listener.settings(0, settings).unwrap();
+        assert_eq!(handshake(&mut caller, &mut front, 1), (Some(Verdict::Early), 10));
+        assert_eq!(caller.out[24..36], fast_open(&right()));
+    }
+    // Under new only there was none, so one is asked for, in kind 34.
+    let (mut caller, mut front) = asked_in_the_older_coding(Codings::New);
+    assert_eq!(handshake(&mut caller, &mut front, 1), (Some(Verdict::Plain), 0));
+    assert_eq!(caller.out[24..28], [34, 2, 1, 1]);
+    assert_eq!(front.out[24..], fast_open(&right()));
+}
+
+#[test]
+fn the_setting_is_that_of_each_answer() {
+    let mut caller = Caller { codings: Codings::Both, ..Caller::new() };
+    caller.learn(0, 1, &older(&[3; 8]), 5, 0).unwrap();
+    assert_eq!(caller.opening(0, 1, 443), early(&[3; 8]), "brought, so no ban");
+    caller.codings = Codings::New;
+    caller.learn(0, 1, &older(&[4; 8]), 0, 0).unwrap();
+    assert_eq!(caller.opening(0, 1, 443), early(&[3; 8]), "an unknown option brings nothing");
+    caller.learn(0, 1, &[&[2, 4, 0, 20], &older(&[4; 8])[..]].concat(), 5, 0).unwrap();
+    assert_eq!(caller.open(0, 1, 443), BANNED, "and doesn't keep a ban away");
+    assert_eq!(caller.open(0, 1, 444), 36 + 4, "though the size is learnt");
+    caller.codings = Codings::Both;
+    caller.learn(1, 1, &older(&[4; 8]), 5, 0).unwrap();
+    assert_eq!(caller.open(BAN_MS - 1, 1, 443), BANNED, "a cookie leaves the ban as it is");
+    assert_eq!(caller.open(BAN_MS, 1, 443), 36 + 4);
+    assert_eq!(caller.out[24..36], fast_open(&[4; 8]));
+}
+
+#[test]
+fn the_older_coding_makes_recent() {
+    for (codings, options, recent) in [
+        (Codings::Both, older(&[4; 8]), true),
+        (Codings::Both, older(&[]), false),
+        (Codings::Both, vec![254, 6, 0xf9, 0x89, 1, 2, 1, 1], false),
+        (Codings::Both, vec![254, 8, 0xf9, 0x88, 1, 2, 3, 4], false),
+        (Codings::New, older(&[4; 8]), false),
+    ] {
+        let mut caller = Caller { codings, ..Caller::new() };
+        for n in 0..32 {
+            caller.learn(0, n, &fast_open(&[3; 8]), 0, 0).unwrap();
+        }
+        caller.learn(0, 0, &options, 0, 0).unwrap();
+        caller.learn(0, 32, &fast_open(&[3; 8]), 0, 0).unwrap();
+        let (kept, forgotten) = if recent { (0, 1) } else { (1, 0) };
+        assert_eq!(caller.open(0, kept, 443), WITH_DATA, "{codings:?} {options:?}");
+        assert_eq!(caller.open(0, forgotten, 443), ASKING, "{codings:?} {options:?}");
+    }
 }
 
 #[test]
@@ -678,6 +979,76 @@ fn lines() {
     assert_eq!(printed[26..], ["9 - - 0 0 0 - - kept"]);
 }
 
+/// Words behind a line that takes the coding setting, and what it is then; `None` for a bad line.
+const CODING_WORDS: [(&str, Option<Codings>); 16] = [
+    (" both", Some(Codings::Both)),
+    ("", Some(Codings::New)),
+    (" both", Some(Codings::Both)),
+    (" new", Some(Codings::New)),
+    (" both", Some(Codings::Both)),
+    (" old", None),
+    (" NEW", None),
+    (" Both", None),
+    (" ", None),
+    (" both ", None),
+    ("  both", None),
+    (" both both", None),
+    (" new 64", None),
+    (" both\t", None),
+    (" -", None),
+    (" newboth", None),
+];
+
+#[test]
+fn coding_words_of_settings() {
+    let mut session = ListenerSession::new();
+    session.line(b"start c0000202 443 000102030405060708090a0b0c0d0e0f").unwrap();
+    let mut last = Codings::New;
+    for (word, codings) in CODING_WORDS {
+        let line = format!("settings 0 on 8 1460 1000 1460{word}");
+        let printed = session.line(line.as_bytes()).unwrap();
+        assert_eq!(printed, if codings.is_some() { "0 - - 0 0 0 - - kept" } else { "bad line" }, "{line}");
+        last = codings.unwrap_or(last);
+        let expected = Settings { hold: 1000, codings: last, ..SETTINGS };
+        assert_eq!(session.listener.front().unwrap().current_settings(), expected, "{line}");
+    }
+    assert_eq!(last, Codings::Both);
+    // It has no range of its own, and takes no part in the order of refusals.
+    for (line, number) in [
+        ("settings 0 on 65 1460 1000 1460 both", "12"),
+        ("settings 281474976710657 on 65 1460 1000 1460 new", "5"),
+        ("settings 0 both 8 1460 1000 1460", "bad"),
+        ("settings 0 on 8 1460 1000 both", "bad"),
+        ("key 0 000102030405060708090a0b0c0d0e0f both", "bad"),
+        ("start c0000202 443 000102030405060708090a0b0c0d0e0f both", "bad"),
+    ] {
+        assert!(session.line(line.as_bytes()).unwrap().starts_with(number), "{line}");
+    }
+    assert_eq!(session.listener.front().unwrap().current_settings().codings, Codings::Both);
+}
+
+#[test]
+fn coding_words_of_answers() {
+    let segment = answer(&server(1), &PEER, &older(&[3; 8]), 8);
+    let hex: String = segment.iter().map(|byte| format!("{byte:02x}")).collect();
+    for (word, codings) in CODING_WORDS {
+        let mut session = ClientSession::new();
+        session.line(b"start 4").unwrap();
+        let line = format!("answer 0 c0000201 40000 0a000001 443 7 5 {hex}{word}");
+        let printed = session.line(line.as_bytes()).unwrap();
+        assert_eq!(printed, if codings.is_some() { "0 0 0 - kept" } else { "bad line" }, "{line}");
+        let memory = session.client.memory().unwrap();
+        let stored = if codings == Some(Codings::Both) { &[3; 8][..] } else { &[] };
+        assert_eq!(memory.known(&server(1)).0, stored, "{line}");
+        assert_eq!(memory.bans().count(), usize::from(codings == Some(Codings::New)), "{line}");
+    }
+    let mut session = ClientSession::new();
+    for line in ["start 4 both", "failed 0 0a000001 443 new", "answer 0 c0000201 40000 0a000001 443 7 5 both"]
+    {
+        assert_eq!(session.line(line.as_bytes()).unwrap(), "bad line", "{line}");
+    }
+}
+
 #[test]
 fn line_lengths() {
     let line = |length: usize| {
@@ -770,15 +1141,29 @@ fn unhex(word: &str) -> Vec<u8> {
     (0..digits.len()).step_by(2).map(|at| u8::from_str_radix(&digits[at..at + 2], 16).unwrap()).collect()
 }
 
-/// Runs a generated script and shows each call that is done: its words, the answer's and the
-/// memory after it.
-fn each_done(seed: u64, mut show: impl FnMut(&[&str], &[&str], &Memory)) {
-    let mut session = ClientSession::new();
-    for line in generate::client(seed, 3000).split(|&b| b == b'\n') {
+/// Runs a generated script and shows each call that is done: its words, the answer's and what
+/// there is after it.
+fn each_done<S: Session>(mut session: S, text: &[u8], mut show: impl FnMut(&[&str], &[&str], &S)) {
+    for line in text.split(|&b| b == b'\n') {
         let Some(printed) = session.line(line).filter(|printed| printed.starts_with("0 ")) else { continue };
         let words: Vec<&str> = std::str::from_utf8(line).unwrap().split(' ').collect();
         let printed: Vec<&str> = printed.split(' ').collect();
-        show(&words, &printed, session.client.memory().unwrap());
+        show(&words, &printed, &session);
+    }
+}
+
+fn each_client_done(seed: u64, mut show: impl FnMut(&[&str], &[&str], &Memory)) {
+    each_done(ClientSession::new(), &generate::client(seed, 3000), |words, printed, session| {
+        show(words, printed, session.client.memory().unwrap())
+    });
+}
+
+/// The setting that an answer's words give.
+fn codings_given(words: &[&str]) -> Codings {
+    if words.get(9) == Some(&"both") {
+        Codings::Both
+    } else {
+        Codings::New
     }
 }
 
@@ -786,7 +1171,7 @@ fn each_done(seed: u64, mut show: impl FnMut(&[&str], &[&str], &Memory)) {
 fn generated_openings_meet_the_room() {
     for seed in 1..=4 {
         let mut met: [Met; 17] = Default::default();
-        each_done(seed, |words, printed, memory| {
+        each_client_done(seed, |words, printed, memory| {
             if words[0] != "open" {
                 return;
             }
@@ -812,17 +1197,27 @@ fn generated_openings_meet_the_room() {
 }
 
 /// What an answer brings of Fast Open, with the length of its cookie. A 34 that isn't read as
-/// an option that counts is taken for a skipped one.
-fn brings(area: &[u8]) -> (&'static str, usize) {
-    let used = |area| wire::read_options(area).fast_open;
-    match used(area) {
+/// an option that counts is taken for a skipped one, a 254 for one of another experiment.
+fn brings(area: &[u8], codings: Codings) -> (&'static str, usize) {
+    let used = |area, codings| wire::read_options(area, codings).fast_open;
+    match used(area, codings) {
+        None if used(area, Codings::Both).is_some_and(|older| !older.cookie.is_empty()) => {
+            ("unread cookie", 0)
+        }
         None if area.contains(&34) => ("skipped", 0),
+        None if area.contains(&254) => ("other", 0),
         None => ("nothing", 0),
         Some(first) if !first.cookie.is_empty() => {
-            let skipped = area[..first.at - 2].contains(&34);
-            (if skipped { "skipped, cookie" } else { "cookie" }, first.cookie.len())
+            let before = &area[..first.at - first.coding.prefix()];
+            let sort = match first.coding {
+                _ if before.contains(&34) => "skipped, cookie",
+                _ if before.contains(&254) => "other, cookie",
+                Coding::New => "cookie",
+                Coding::Older => "older cookie",
+            };
+            (sort, first.cookie.len())
         }
-        Some(first) => match used(&area[first.at..]) {
+        Some(first) => match used(&area[first.at..], codings) {
             Some(next) if !next.cookie.is_empty() => ("request, cookie", 0),
             _ => ("request", 0),
         },
@@ -840,7 +1235,7 @@ fn generated_openings_meet_the_ban() {
         // how many openings come at a ban's end.
         let mut telling = Vec::new();
         let mut ends = 0;
-        each_done(seed, |words, printed, memory| {
+        each_client_done(seed, |words, printed, memory| {
             let clock = memory.clock();
             let name = |at: usize| (unhex(words[at]), words[at + 1].parse::<u16>().unwrap());
             match words[0] {
@@ -851,7 +1246,7 @@ fn generated_openings_meet_the_ban() {
                     if words[7].parse() != Ok(0) && printed[1] == "0" && !banned.contains(&name(4)) {
                         let segment = unhex(words[8]);
                         let area = wire::Segment::parse(&segment).unwrap().options();
-                        last.insert(name(4), (brings(area), clock));
+                        last.insert(name(4), (brings(area, codings_given(words)), clock));
                     }
                 }
                 _ => {
@@ -870,10 +1265,169 @@ fn generated_openings_meet_the_ban() {
             let count = telling.iter().filter(|brought| brought.1 == length).count();
             assert!(count >= 1, "seed {seed} cookie {length}");
         }
-        for sort in ["skipped, cookie", "request, cookie", "request", "skipped", "nothing"] {
+        for sort in [
+            "older cookie",
+            "unread cookie",
+            "skipped, cookie",
+            "other, cookie",
+            "request, cookie",
+            "request",
+            "skipped",
+            "other",
+            "nothing",
+        ] {
             let count = telling.iter().filter(|brought| brought.0 == sort).count();
-            assert!(count >= 4, "seed {seed} {sort}");
+            assert!(count >= 3, "seed {seed} {sort}");
         }
         assert!(ends >= 4, "seed {seed}");
+    }
+}
+
+#[test]
+fn generated_openings_meet_the_older_coding() {
+    for seed in 1..=4 {
+        // Early by a cookie in the older coding, under the present key and the previous one; a
+        // fresh cookie in the older coding; a right cookie in it under new only; repeats and
+        // resends under another setting than the opening's.
+        let (mut early, mut outdated, mut fresh, mut unread) = (0, 0, 0, 0);
+        let (mut repeats, mut resends) = (0, 0);
+        let mut key = [0; 16];
+        let mut opened = BTreeMap::new();
+        each_done(ListenerSession::new(), &generate::listener(seed, 3000), |words, printed, session| {
+            let settings = session.listener.front().unwrap().current_settings();
+            let turned = |under: Option<&Codings>| usize::from(under.is_some_and(|&c| c != settings.codings));
+            match words[0] {
+                "start" => {
+                    key = unhex(words[3]).try_into().unwrap();
+                    opened.clear();
+                }
+                "key" => key = unhex(words[2]).try_into().unwrap(),
+                "resend" => {
+                    assert_eq!(printed[4], "24");
+                    resends += turned(opened.get(&(unhex(words[2]), words[3].parse().unwrap())));
+                }
+                "segment" if printed[1] == "opening" => {
+                    let (source, segment, output) = (unhex(words[2]), unhex(words[5]), unhex(printed[6]));
+                    let segment = wire::Segment::parse(&segment).unwrap();
+                    let name = (source.clone(), segment.source_port());
+                    if printed[2] == "repeat" {
+                        assert_eq!(printed[4], "24");
+                        repeats += turned(opened.get(&name));
+                        return;
+                    }
+                    opened.insert(name, settings.codings);
+                    fresh += usize::from(output[24..].starts_with(&[254, 12, 0xf9, 0x89]));
+                    let used = wire::read_options(segment.options(), Codings::Both).fast_open;
+                    let Some(option) = used.filter(|option| option.coding == Coding::Older) else { return };
+                    let is_right = option.cookie == cookie(&key, &source);
+                    match (settings.codings, printed[2]) {
+                        (Codings::Both, "early") if is_right => early += 1,
+                        (Codings::Both, "early") => outdated += 1,
+                        (Codings::New, "plain") if is_right && printed[4] == "24" => {
+                            let below = printed[5].parse::<u32>().unwrap() < settings.limit;
+                            unread += usize::from(settings.on && below);
+                        }
+                        _ => {}
+                    }
+                }
+                _ => {}
+            }
+        });
+        assert!(early >= 30 && outdated >= 3, "seed {seed}: {early} {outdated}");
+        assert!(fresh >= 20 && unread >= 10, "seed {seed}: {fresh} {unread}");
+        assert!(repeats >= 20 && resends >= 20, "seed {seed}: {repeats} {resends}");
+    }
+}
+
+#[test]
+fn generated_openings_carry_cookies_from_the_older_coding() {
+    for seed in 1..=4 {
+        // By server: the cookie last stored, if it came in the older coding.
+        let mut stored = BTreeMap::new();
+        let mut carried = 0;
+        each_client_done(seed, |words, printed, _| match words[0] {
+            "start" => stored.clear(),
+            "answer" => {
+                let segment = unhex(words[8]);
+                let area = wire::Segment::parse(&segment).unwrap().options();
+                let used = wire::read_options(area, codings_given(words)).fast_open;
+                match used.filter(|option| !option.cookie.is_empty()) {
+                    Some(option) if option.coding == Coding::Older => {
+                        stored.insert(unhex(words[4]), option.cookie.to_vec());
+                    }
+                    Some(_) => _ = stored.remove(&unhex(words[4])),
+                    None => {}
+                }
+            }
+            "open" => {
+                let options = unhex(printed[3]).split_off(24);
+                assert_ne!(options.first(), Some(&254), "never written");
+                if let Some(cookie) = stored.get(&unhex(words[4])) {
+                    carried += usize::from(options.starts_with(&fast_open(cookie)));
+                }
+            }
+            _ => {}
+        });
+        assert!(carried >= 50, "seed {seed}: {carried}");
+    }
+}
+
+/// The options that have the mark of the Fast Open experiment, by their length byte.
+fn marked_lengths(area: &[u8]) -> impl Iterator<Item = usize> + '_ {
+    area.windows(4).filter(|window| matches!(window, [254, _, 0xf9, 0x89])).map(|window| window[1].into())
+}
+
+#[test]
+fn generated_areas_have_older_lengths() {
+    // Openings when both are read, and answers given `both`.
+    let [mut opening, mut answer] = [[0; 256]; 2];
+    for seed in 1..=4 {
+        each_done(ListenerSession::new(), &generate::listener(seed, 3000), |words, printed, session| {
+            let codings = session.listener.front().unwrap().current_settings().codings;
+            if printed[1] == "opening" && codings == Codings::Both {
+                let segment = unhex(words[5]);
+                let area = wire::Segment::parse(&segment).unwrap().options();
+                marked_lengths(area).for_each(|length| opening[length] += 1);
+            }
+        });
+        each_client_done(seed, |words, _, _| {
+            if words[0] == "answer" && codings_given(words) == Codings::Both {
+                let segment = unhex(words[8]);
+                let area = wire::Segment::parse(&segment).unwrap().options();
+                marked_lengths(area).for_each(|length| answer[length] += 1);
+            }
+        });
+    }
+    for length in [4, 5, 6, 7, 8, 12, 18, 20, 21, 22] {
+        assert!(opening[length] >= 2 && answer[length] >= 2, "{length}");
+    }
+}
+
+/// What follows the words that a line must have, each word with the space before it.
+fn tail(line: &str, words: usize) -> String {
+    line.split(' ').skip(words).map(|word| format!(" {word}")).collect()
+}
+
+#[test]
+fn generated_scripts_spell_the_coding() {
+    let [mut settings, mut answers] = [BTreeMap::new(), BTreeMap::new()];
+    for seed in 1..=4 {
+        for text in [generate::listener(seed, 3000), generate::client(seed, 3000)] {
+            for line in String::from_utf8_lossy(&text).lines() {
+                if line.starts_with("settings ") {
+                    *settings.entry(tail(line, 7)).or_insert(0) += 1;
+                } else if line.starts_with("answer ") {
+                    *answers.entry(tail(line, 9)).or_insert(0) += 1;
+                }
+            }
+        }
+    }
+    for tails in [settings, answers] {
+        for tail in ["", " new", " both"] {
+            assert!(tails[tail] >= 50, "{tail:?}");
+        }
+        for tail in [" old", " NEW", " ", " both both"] {
+            assert!(tails[tail] >= 1, "{tail:?}");
+        }
     }
 }

@@ -5,7 +5,7 @@ use std::hint::black_box;
 
 use crate::aes::Schedule;
 use crate::listener::{cookie, Kind, Listener, Reply, Settings, LEAST_OUTPUT, SLOTS};
-use crate::wire::{self, Header, Refusal, ACK, SYN};
+use crate::wire::{self, Codings, Header, Refusal, ACK, SYN};
 
 const KEY: [u8; 16] = [0, 1, 2, 3, 4, 5, 6, 7, 8, 9, 10, 11, 12, 13, 14, 15];
 const NEXT_KEY: [u8; 16] = [16, 17, 18, 19, 20, 21, 22, 23, 24, 25, 26, 27, 28, 29, 30, 31];
@@ -89,7 +89,7 @@ fn options(count: u64) -> u64 {
     let mut digest = 0u64;
     for turn in 0..count {
         area[3] = turn as u8;
-        let read = wire::read_options(black_box(&area));
+        let read = wire::read_options(black_box(&area), Codings::New);
         digest = digest.wrapping_add(read.mss.unwrap_or(0).into());
         if let Some(option) = read.fast_open {
             digest = digest.wrapping_add((option.at + option.cookie.len()) as u64);
@@ -136,7 +136,8 @@ struct Bench {
 impl Bench {
     fn new(live: usize) -> Bench {
         let mut listener = Listener::start(&OWN, OWN_PORT, &KEY).expect("a right start");
-        let settings = Settings { on: true, limit: 64, room: 1460, hold: 0, mss: 1460 };
+        let settings =
+            Settings { on: true, limit: 64, room: 1460, hold: 0, mss: 1460, codings: Codings::New };
         listener.settings(0, settings).expect("right settings");
         let mut bench = Bench { listener, out: [0; LEAST_OUTPUT], digest: 0 };
         for port in (LIVE_PORT..).take(live) {

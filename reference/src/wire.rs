@@ -13,6 +13,10 @@ pub const END_OF_LIST: u8 = 0;
 pub const NO_OPERATION: u8 = 1;
 pub const MSS: u8 = 2;
 pub const FAST_OPEN: u8 = 34;
+/// Shared by experiments, each of which begins its options with two bytes of its own.
+pub const EXPERIMENT: u8 = 254;
+/// The two bytes of the Fast Open experiment.
+pub const FAST_OPEN_MARK: [u8; 2] = [0xf9, 0x89];
 
 const PROTOCOL_TCP: u64 = 6;
 
@@ -112,9 +116,85 @@ impl<'a> Segment<'a> {
     }
 }
 
+/// How a Fast Open option is written. The codings differ only in what stands before the cookie.
+#[derive(Clone, Copy, Debug, PartialEq, Eq)]
+pub enum Coding {
+    New,
+    /// That of the experiment, from before the option had a kind of its own.
+    Older,
+}
+
+impl Coding {
+    fn kind(self) -> u8 {
+        match self {
+            Coding::New => FAST_OPEN,
+            Coding::Older => EXPERIMENT,
+        }
+    }
+
+    /// What stands between the length byte and the cookie.
+    fn mark(self) -> &'static [u8] {
+        match self {
+            Coding::New => &[],
+            Coding::Older => &FAST_OPEN_MARK,
+        }
+    }
+
+    /// How many bytes stand before the cookie.
+    pub fn prefix(self) -> usize {
+        2 + self.mark().len()
+    }
+
+    /// The cookie of an option in this coding, empty where it asks for one; `None` where the
+    /// option's length doesn't count.
+    fn cookie(self, option: &[u8]) -> Option<&[u8]> {
+        let cookie = &option[self.prefix()..];
+        let counts = matches!(cookie.len(), 0 | 4 | 6 | 8 | 10 | 12 | 14 | 16);
+        counts.then_some(cookie)
+    }
+
+    /// Writes the option with this cookie to the front of `out` and says how long it is.
+    pub fn write(self, cookie: &[u8], out: &mut [u8]) -> usize {
+        let (prefix, length) = (self.prefix(), self.prefix() + cookie.len());
+        out[0] = self.kind();
+        out[1] = length as u8;
+        out[2..prefix].copy_from_slice(self.mark());
+        out[prefix..length].copy_from_slice(cookie);
+        length
+    }
+
+    /// The option with this cookie.
+    pub fn option(self, cookie: &[u8]) -> Vec<u8> {
+        let mut option = vec![0; self.prefix() + cookie.len()];
+        self.write(cookie, &mut option);
+        option
+    }
+}
+
+/// The setting: which codings are read. An option in another one is of an unknown kind.
+#[derive(Clone, Copy, Debug, PartialEq, Eq)]
+pub enum Codings {
+    New,
+    Both,
+}
+
+impl Codings {
+    /// The coding of a whole option, from its kind byte on, if it is a Fast Open option at all;
+    /// its length may still not count.
+    fn coding(self, option: &[u8]) -> Option<Coding> {
+        let coding = match option[0] {
+            FAST_OPEN => Coding::New,
+            EXPERIMENT if self == Codings::Both => Coding::Older,
+            _ => return None,
+        };
+        option[2..].starts_with(coding.mark()).then_some(coding)
+    }
+}
+
 /// A Fast Open option that counts; an empty cookie asks for one.
 #[derive(Clone, Copy, Debug, PartialEq, Eq)]
 pub struct FastOpen<'a> {
+    pub coding: Coding,
     /// Where the first cookie byte stands in the option area.
     pub at: usize,
     pub cookie: &'a [u8],
@@ -128,7 +208,7 @@ pub struct Options<'a> {
 
 /// Reads an option area up to its end, a kind 0, or the first option that doesn't fit.
 /// Callers come here with a SYN only, so Fast Open without SYN is never seen.
-pub fn read_options(area: &[u8]) -> Options<'_> {
+pub fn read_options(area: &[u8], codings: Codings) -> Options<'_> {
     let mut found = Options::default();
     let mut at = 0;
     while at < area.len() {
@@ -145,23 +225,22 @@ pub fn read_options(area: &[u8]) -> Options<'_> {
         if length < 2 || length > area.len() - at {
             break;
         }
-        let body = &area[at + 2..at + length];
-        match area[at] {
-            MSS if length == 4 && found.mss.is_none() => {
-                found.mss = Some(u16::from_be_bytes([body[0], body[1]]));
-            }
-            FAST_OPEN if fast_open_counts(length) && found.fast_open.is_none() => {
-                found.fast_open = Some(FastOpen { at: at + 2, cookie: body });
-            }
-            _ => {}
+        let option = &area[at..at + length];
+        if let [MSS, 4, high, low] = *option {
+            found.mss = found.mss.or(Some(u16::from_be_bytes([high, low])));
+        } else if found.fast_open.is_none() {
+            found.fast_open = read_fast_open(option, at, codings);
         }
         at += length;
     }
     found
 }
 
-fn fast_open_counts(length: usize) -> bool {
-    length == 2 || (6..=18).contains(&length) && length.is_multiple_of(2)
+/// The option that begins at `at`, if it is a Fast Open option that counts.
+fn read_fast_open(option: &[u8], at: usize, codings: Codings) -> Option<FastOpen<'_>> {
+    let coding = codings.coding(option)?;
+    let cookie = coding.cookie(option)?;
+    Some(FastOpen { coding, at: at + coding.prefix(), cookie })
 }
 
 /// Plain sum of big-endian 16-bit words, an odd last byte padded with zero.
@@ -234,15 +313,49 @@ mod tests {
     use super::*;
 
     fn cookie(area: &[u8]) -> Option<&[u8]> {
-        read_options(area).fast_open.map(|option| option.cookie)
+        read_options(area, Codings::New).fast_open.map(|option| option.cookie)
     }
+
+    /// The option used when both codings are read: its coding and its cookie.
+    fn used(area: &[u8]) -> Option<(Coding, &[u8])> {
+        read_options(area, Codings::Both).fast_open.map(|option| (option.coding, option.cookie))
+    }
+
+    const REQUEST: Option<(Coding, &[u8])> = Some((Coding::New, &[]));
+    const OLDER_REQUEST: Option<(Coding, &[u8])> = Some((Coding::Older, &[]));
 
     #[test]
     fn first_that_counts_wins() {
         let area = [2, 3, 9, 2, 4, 1, 2, 2, 4, 3, 4, 34, 3, 0, 34, 2, 34, 6, 1, 2, 3, 4];
-        let options = read_options(&area);
-        assert_eq!(options.mss, Some(0x0102));
-        assert_eq!(options.fast_open, Some(FastOpen { at: 16, cookie: &[] }));
+        for codings in [Codings::New, Codings::Both] {
+            let options = read_options(&area, codings);
+            assert_eq!(options.mss, Some(0x0102));
+            assert_eq!(options.fast_open, Some(FastOpen { coding: Coding::New, at: 16, cookie: &[] }));
+        }
+    }
+
+    #[test]
+    fn first_that_counts_of_either_coding_wins() {
+        let [new, older] = [&[34, 6, 1, 2, 3, 4][..], &[254, 8, 0xf9, 0x89, 5, 6, 7, 8]];
+        let [new_skipped, older_skipped] = [&[34, 4, 1, 2][..], &[254, 6, 0xf9, 0x89, 1, 2]];
+        let other = &[254, 8, 0xf9, 0x88, 9, 9, 9, 9][..];
+        let is_new = (Coding::New, &[1, 2, 3, 4][..]);
+        let is_older = (Coding::Older, &[5, 6, 7, 8][..]);
+        for (area, both, new_only) in [
+            ([new, older], Some(is_new), Some(is_new)),
+            ([older, new], Some(is_older), Some(is_new)),
+            ([older_skipped, new], Some(is_new), Some(is_new)),
+            ([new_skipped, older], Some(is_older), None),
+            ([older_skipped, older], Some(is_older), None),
+            ([new_skipped, new], Some(is_new), Some(is_new)),
+            ([other, older], Some(is_older), None),
+            ([other, new], Some(is_new), Some(is_new)),
+            ([older_skipped, new_skipped], None, None),
+        ] {
+            let area = area.concat();
+            assert_eq!(used(&area), both, "{area:?}");
+            assert_eq!(cookie(&area), new_only.map(|used| used.1), "{area:?}");
+        }
     }
 
     #[test]
@@ -253,7 +366,86 @@ mod tests {
             area[1] = length as u8;
             let counts = matches!(length, 2 | 6 | 8 | 10 | 12 | 14 | 16 | 18);
             assert_eq!(cookie(&area), counts.then(|| &area[2..]), "{length}");
+            assert_eq!(used(&area), counts.then(|| (Coding::New, &area[2..])), "{length}");
         }
+    }
+
+    #[test]
+    fn older_lengths() {
+        for length in 4..=40usize {
+            let mut area = vec![7; length];
+            area[..4].copy_from_slice(&[254, length as u8, 0xf9, 0x89]);
+            let counts = matches!(length, 4 | 8 | 10 | 12 | 14 | 16 | 18 | 20);
+            assert_eq!(used(&area), counts.then(|| (Coding::Older, &area[4..])), "{length}");
+            assert_eq!(cookie(&area), None, "{length}");
+            assert_eq!(Codings::Both.coding(&area), Some(Coding::Older), "else skipped {length}");
+            assert_eq!(Codings::New.coding(&area), None, "unknown {length}");
+            // Whatever it is, it is passed over by its length.
+            area.extend([34, 2]);
+            assert_eq!(cookie(&area), Some(&[][..]), "{length}");
+            assert_eq!(used(&area).map(|used| used.0 == Coding::Older), Some(counts), "{length}");
+        }
+    }
+
+    #[test]
+    fn cookies_have_their_place() {
+        for before in 0..=20 {
+            let mut area = vec![1; before];
+            area.extend([254, 12, 0xf9, 0x89, 1, 2, 3, 4, 5, 6, 7, 8]);
+            let option = read_options(&area, Codings::Both).fast_open.unwrap();
+            assert_eq!(option.at, before + 4);
+            assert_eq!(area[option.at..], *option.cookie);
+        }
+    }
+
+    #[test]
+    fn other_experiments() {
+        let [high, low] = FAST_OPEN_MARK;
+        let mut marks = vec![[low, high], [high, high], [low, low], [0, 0], [0xff, 0xff]];
+        marks.extend((0..8).flat_map(|bit| [[high ^ 1 << bit, low], [high, low ^ 1 << bit]]));
+        for mark in marks {
+            for length in 4..=38 {
+                let mut area = vec![7; length];
+                area[..4].copy_from_slice(&[254, length as u8, mark[0], mark[1]]);
+                assert_eq!(Codings::Both.coding(&area), None, "unknown, so no skip: {mark:?} {length}");
+                assert_eq!(used(&area), None);
+                area.extend([34, 2]);
+                assert_eq!(used(&area), REQUEST, "{mark:?} {length}");
+            }
+        }
+        // The mark beyond the option's end is none.
+        assert_eq!(used(&[254, 3, 0xf9, 34, 2]), REQUEST);
+        assert_eq!(used(&[254, 3, 0xf9, 0x89, 2, 34, 2]), REQUEST, "0x89 is a kind");
+        assert_eq!(used(&[254, 2, 34, 2]), REQUEST);
+        assert_eq!(used(&[254, 2, 0xf9, 0x89, 34, 2]), None, "0x89 is a length past the end");
+        for option in [&[254, 2][..], &[254, 3, 0xf9]] {
+            assert_eq!(Codings::Both.coding(option), None);
+        }
+    }
+
+    #[test]
+    fn older_cut_off() {
+        let whole = [254, 12, 0xf9, 0x89, 1, 2, 3, 4, 5, 6, 7, 8];
+        assert_eq!(used(&whole), Some((Coding::Older, &whole[4..])));
+        for length in 0..whole.len() {
+            assert_eq!(used(&whole[..length]), None, "{length}");
+            let after = [&[254, 4, 0xf9, 0x89], &whole[..length]].concat();
+            assert_eq!(used(&after), OLDER_REQUEST, "earlier options stand");
+        }
+        assert_eq!(used(&[254, 4, 0xf9]), None);
+        assert_eq!(used(&[254, 0, 0xf9, 0x89, 34, 2]), None);
+        assert_eq!(used(&[254, 1, 0xf9, 0x89, 34, 2]), None);
+    }
+
+    #[test]
+    fn written_options() {
+        assert_eq!(Coding::New.option(&[]), [34, 2]);
+        assert_eq!(Coding::New.option(&[1, 2, 3, 4]), [34, 6, 1, 2, 3, 4]);
+        assert_eq!(Coding::Older.option(&[]), [254, 4, 0xf9, 0x89]);
+        assert_eq!(Coding::Older.option(&[1, 2, 3, 4]), [254, 8, 0xf9, 0x89, 1, 2, 3, 4]);
+        let mut out = [0xa5; 9];
+        assert_eq!(Coding::Older.write(&[1, 2, 3, 4], &mut out), 8);
+        assert_eq!(out, [254, 8, 0xf9, 0x89, 1, 2, 3, 4, 0xa5]);
     }
 
     #[test]
@@ -262,7 +454,7 @@ mod tests {
             let mut area = vec![7; length];
             area[0] = 2;
             area[1] = length as u8;
-            assert_eq!(read_options(&area).mss, (length == 4).then_some(0x0707));
+            assert_eq!(read_options(&area, Codings::New).mss, (length == 4).then_some(0x0707));
         }
     }
 
@@ -275,7 +467,7 @@ mod tests {
         assert_eq!(cookie(&[34, 2, 5, 9]), Some(&[][..]), "earlier options stand");
         assert_eq!(cookie(&[34, 6, 1, 2, 3]), None, "past the area");
         assert_eq!(cookie(&[1, 1, 1, 34]), None, "kind without a length");
-        assert_eq!(read_options(&[]), Options::default());
+        assert_eq!(read_options(&[], Codings::New), Options::default());
     }
 
     #[test]

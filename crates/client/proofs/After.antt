@@ -11,6 +11,8 @@ use borrow.Author.Tests.{eq-eqb, ne-eqb, lt-ltb, le-ltb}
 use Rattle.segment.specs.Header.{optionArea}
 use Rattle.segment.specs.Options.{isCookieLength, cookieBytes, firstMss}
 use Rattle.segment.specs.Write.{optionAllowed, optionLength}
+use Rattle.segment.specs.declared.options.Coding.the-variants.{New}
+use Rattle.segment.specs.declared.options.Codings.{Codings}
 use Rattle.segment.specs.declared.options.FastOpenOption.{FastOpenOption}
 use Rattle.segment.specs.declared.options.FastOpenOption.the-variants.{Absent, Request, Cookie}
 use Rattle.segment.specs.declared.options.Mss.{Mss}
@@ -99,22 +101,22 @@ pub length-some : (n : ℕ) → isCookieLength n ≡ true → eqb n 0 ≡ false
 length-some n e = ne-eqb n 0 (λ z. omega (arith, cookie-length n e .least))
 
 -- an answer's cookie and MSS, from its options and their area
-pub brought-is : (seg : List ℕ) {o : Options} {area cookie : List ℕ} → o ≡ optionsIn seg → area ≡ optionArea seg → cookie ≡ cookieBytes (o .fast) area
-    → (cookie ≡ cookieIn seg) × (o .mss ≡ mssIn seg)
-brought-is seg eo ea ec = (rw (ec, ea, eo), rw eo)
+pub brought-is : (g : Codings) (seg : List ℕ) {o : Options} {area cookie : List ℕ} → o ≡ optionsIn g seg → area ≡ optionArea seg → cookie ≡ cookieBytes (o .fast) area
+    → (cookie ≡ cookieIn g seg) × (o .mss ≡ mssIn g seg)
+brought-is g seg eo ea ec = (rw (ec, ea, eo), rw eo)
 
 -- whether no cookie is brought, by the option that counts
-pub cookie-told : (seg : List ℕ) → not (hasCookie (optionsIn seg .fast)) ≡ eqb (length (cookieIn seg)) 0
-cookie-told seg = go (optionsIn seg .fast) (inside-segment seg)
+pub cookie-told : (g : Codings) (seg : List ℕ) → not (hasCookie (optionsIn g seg .fast)) ≡ eqb (length (cookieIn g seg)) 0
+cookie-told g seg = go (optionsIn g seg .fast) (inside-segment g seg)
   where
     go : (o : FastOpenOption) → AllInside (length (optionArea seg)) o → not (hasCookie o) ≡ eqb (length (cookieBytes o (optionArea seg))) 0
     go Absent h = refl
-    go Request h = refl
-    go (Cookie at len) h = rw (cookie-bytes (optionArea seg) at len h) (sym (length-some len (cookie-length-back len (h .size))))
+    go (Request c) h = refl
+    go (Cookie c at len) h = rw (cookie-bytes (optionArea seg) c at len h) (sym (length-some len (cookie-length-back len (h .size))))
 
 -- the cookie that an answer brings, and the one that is stored
-pub brought-most : (seg : List ℕ) → length (cookieIn seg) ≤ 16
-brought-most seg = omega (arith, cookie-sized seg, length-most (length (cookieIn seg)))
+pub brought-most : (g : Codings) (seg : List ℕ) → length (cookieIn g seg) ≤ 16
+brought-most g seg = omega (arith, cookie-sized g seg, length-most (length (cookieIn g seg)))
 
 pub cookie-most : (e : Entry) → cookieLength e ≤ 16
 cookie-most e = length-most (e .len)
@@ -133,11 +135,11 @@ cap-most V4 = omega arith
 cap-most V6 = omega arith
 
 -- it is left by the options
-pub sent-left : (f : Family) (banned : Bool) (e : Entry) (offered : ℕ) → sentWith f banned e offered ≤ mssFor f e - optionLength (not banned) (cookieLength e)
+pub sent-left : (f : Family) (banned : Bool) (e : Entry) (offered : ℕ) → sentWith f banned e offered ≤ mssFor f e - optionLength (not banned) New (cookieLength e)
 unfolding dataRoom
 sent-left f true e offered = omega arith
 sent-left f false e offered =
-    chosen (λ n. n ≤ mssFor f e - optionLength true (cookieLength e)) (eqb (cookieLength e) 0) _ _ (λ _. omega arith) (λ _. omega arith)
+    chosen (λ n. n ≤ mssFor f e - optionLength true New (cookieLength e)) (eqb (cookieLength e) 0) _ _ (λ _. omega arith) (λ _. omega arith)
 
 pub sent-most : (f : Family) (banned : Bool) (e : Entry) (offered : ℕ) → (sentWith f banned e offered ≤ offered) × (sentWith f banned e offered ≤ 1460)
 sent-most f banned e offered = (
@@ -147,8 +149,8 @@ sent-most f banned e offered = (
 
 -- what the options leave of the MSS, in code
 module _ (f : Family) (e : Entry) {mss len options : ℕ} (em : mss ≡ mssFor f e) (el : len ≡ cookieLength e)
-    (eo : options ≡ cond (optionAllowed true len) (optionLength true len) 0) where
-  options-are : options ≡ optionLength true (cookieLength e)
+    (eo : options ≡ cond (optionAllowed true len) (optionLength true New len) 0) where
+  options-are : options ≡ optionLength true New (cookieLength e)
   options-are = eo ∙ rw (el, length-allowed true e)
 
   pub room-none : mss < options → 0 ≡ dataRoom f e

@@ -10,6 +10,7 @@ use borrow.Author.Tests.{leb-true, eq-eqb, ne-eqb}
 use Rattle.segment.specs.Refusal.{refusal}
 use Rattle.segment.specs.Header.{fieldsOf}
 use Rattle.segment.specs.Options.{isCookieLength}
+use Rattle.segment.specs.declared.options.Codings.{Codings}
 use Rattle.segment.specs.declared.refusal.Check.the-variants.{Clear}
 use Rattle.segment.specs.declared.header.Header.{Header}
 use Rattle.segment.specs.declared.options.Mss.{Mss}
@@ -54,29 +55,29 @@ cookie-learned : (b c : List ℕ) (mss : Mss) (es : List Entry) → isCookieLeng
 unfolding isFor
 cookie-learned b c mss es e = rw (length-some (length c) e, same-bytes-refl b, e) (short (length c) c refl)
 
-pub cookie-stored : (m : Memory) (t : ℕ) (own server : List ℕ) (a : Attempt) (seg : List ℕ) → isCookieLength (length (cookieIn seg)) ≡ true
-    → cookieOf (storedFor (after m (answer t own server a seg)) server) ≡ cookieIn seg
+pub cookie-stored : (m : Memory) (t : ℕ) (own server : List ℕ) (a : Attempt) (seg : List ℕ) (g : Codings) → isCookieLength (length (cookieIn g seg)) ≡ true
+    → cookieOf (storedFor (after m (answer t own server a seg g)) server) ≡ cookieIn g seg
 unfolding after
-cookie-stored m t own server a seg e = cookie-learned (block server) (cookieIn seg) (mssIn seg) (m .cache) e
+cookie-stored m t own server a seg g e = cookie-learned (block server) (cookieIn g seg) (mssIn g seg) (m .cache) e
 
 -- and no ban is set, whatever is acknowledged
-pub cookie-no-ban : (m : Memory) (t : ℕ) (own server : List ℕ) (a : Attempt) (seg : List ℕ) → isCookieLength (length (cookieIn seg)) ≡ true
-    → after m (answer t own server a seg) .bans ≡ m .bans
+pub cookie-no-ban : (m : Memory) (t : ℕ) (own server : List ℕ) (a : Attempt) (seg : List ℕ) (g : Codings) → isCookieLength (length (cookieIn g seg)) ≡ true
+    → after m (answer t own server a seg g) .bans ≡ m .bans
 unfolding after
-cookie-no-ban m t own server a seg e = rw (length-some (length (cookieIn seg)) e, and-false (isUnacknowledged (a .sent) (countIn a (fieldsOf seg))))
+cookie-no-ban m t own server a seg g e = rw (length-some (length (cookieIn g seg)) e, and-false (isUnacknowledged (a .sent) (countIn a (fieldsOf seg))))
 
 -- without one it is set, where data was sent and none is acknowledged
-pub negative-ban : (m : Memory) (t : ℕ) (own server : List ℕ) (a : Attempt) (seg : List ℕ) → 0 < a .sent → countIn a (fieldsOf seg) ≡ 0 → length (cookieIn seg) ≡ 0
-    → after m (answer t own server a seg) .bans ≡ addBan t (block server) (a .dest) (m .bans)
+pub negative-ban : (m : Memory) (t : ℕ) (own server : List ℕ) (a : Attempt) (seg : List ℕ) (g : Codings) → 0 < a .sent → countIn a (fieldsOf seg) ≡ 0 → length (cookieIn g seg) ≡ 0
+    → after m (answer t own server a seg g) .bans ≡ addBan t (block server) (a .dest) (m .bans)
 unfolding after
-negative-ban m t own server a seg s z e = rw (ne-eqb (a .sent) 0 (λ n. omega (arith, s, n)), eq-eqb _ _ z, eq-eqb _ _ e)
+negative-ban m t own server a seg g s z e = rw (ne-eqb (a .sent) 0 (λ n. omega (arith, s, n)), eq-eqb _ _ z, eq-eqb _ _ e)
 
 -- an MSS that comes is stored, too
 mss-learned : (b c : List ℕ) (v : ℕ) (es : List Entry) → entryFor b (cacheAfter b c (Given v) es) .mss ≡ Given v
 unfolding isFor
 mss-learned b c v es = rw (or-true (not (eqb (length c) 0)), same-bytes-refl b)
 
-pub mss-stored : (m : Memory) (t : ℕ) (own server : List ℕ) (a : Attempt) (seg : List ℕ) (v : ℕ) → mssIn seg ≡ Given v
-    → storedFor (after m (answer t own server a seg)) server .mss ≡ Given v
+pub mss-stored : (m : Memory) (t : ℕ) (own server : List ℕ) (a : Attempt) (seg : List ℕ) (g : Codings) (v : ℕ) → mssIn g seg ≡ Given v
+    → storedFor (after m (answer t own server a seg g)) server .mss ≡ Given v
 unfolding after
-mss-stored m t own server a seg v e = rw e (mss-learned (block server) (cookieIn seg) v (m .cache))
+mss-stored m t own server a seg g v e = rw e (mss-learned (block server) (cookieIn g seg) v (m .cache))

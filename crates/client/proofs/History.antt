@@ -8,6 +8,7 @@ use lib.Dec.{ltb, eqb}
 use lib.ListN.{length}
 use borrow.Author.Tests.{eqb-true, ne-eqb, ltb-false, not-false}
 use Rattle.segment.specs.Refusal.{numberOf, refusal}
+use Rattle.segment.specs.declared.options.Codings.{Codings}
 use Rattle.segment.specs.declared.refusal.Refusal.{Refusal}
 use Rattle.segment.specs.declared.refusal.Check.{Check}
 use Rattle.segment.specs.declared.refusal.Check.the-variants.{Clear, Refused}
@@ -40,7 +41,7 @@ not-before m t e = ltb-false t (m .clock) (or-false (ltb t (m .clock)) _ e .0)
 done-clock : (m : Memory) (c : Call) → Passed (checks m c) → m .clock ≤ after m c .clock
 unfolding after
 done-clock m (connect t own server o offered out-len) p = not-before m t (p .1 .0)
-done-clock m (answer t own server a seg) p = not-before m t (p .1 .0)
+done-clock m (answer t own server a seg g) p = not-before m t (p .1 .0)
 done-clock m (failed t server port) p = not-before m t (p .1 .0)
 
 step-clock : (m : Memory) (c : Call) → m .clock ≤ step m c .memory .clock
@@ -64,7 +65,7 @@ more-clock m (c ∷ cs) more = more-clock (step m c .memory) cs more
 -- a call that is refused is no store
 stores-refused : (s : List Store) (c : Call) (r : Refusal) → storesAfter s c (numberOf r) ≡ s
 stores-refused s (connect t own server o offered out-len) r = refl
-stores-refused s (answer t own server a seg) r = rw (ne-eqb (numberOf r) 0 (positive r))
+stores-refused s (answer t own server a seg g) r = rw (ne-eqb (numberOf r) 0 (positive r))
 stores-refused s (failed t server port) r = refl
 
 -- the record and the cache agree on what is a store
@@ -86,16 +87,16 @@ record Right (f : Family) (m : Memory) (s : List Store) : Type 0 where
   alone : Alone (m .clock) (m .bans)
 
 module _ (f : Family) where
-  store : (s : List Store) (es : List Entry) (server seg : List ℕ) → length server ≡ size f → Stored f s es
-      → Stored f (storesWith s server (cookieIn seg) (mssIn seg)) (cacheAfter (block server) (cookieIn seg) (mssIn seg) es)
-  store s es server seg l h = rw (same-store (cookieIn seg) (mssIn seg)) (go (brings (cookieIn seg) (mssIn seg)))
+  store : (g : Codings) (s : List Store) (es : List Entry) (server seg : List ℕ) → length server ≡ size f → Stored f s es
+      → Stored f (storesWith s server (cookieIn g seg) (mssIn g seg)) (cacheAfter (block server) (cookieIn g seg) (mssIn g seg) es)
+  store g s es server seg l h = rw (same-store (cookieIn g seg) (mssIn g seg)) (go (brings (cookieIn g seg) (mssIn g seg)))
     where
       x : Store
-      x = record { address = server; cookie = cookieIn seg; mss = mssIn seg }
+      x = record { address = server; cookie = cookieIn g seg; mss = mssIn g seg }
 
       go : (b : Bool) → Stored f (cond b (x ∷ s) s) (cond b (remembered (learnedFrom (entryFor (block server) es) (block server) (x .cookie) (x .mss)) es) es)
       go true =
-          let kept : Kept f x = record { address = l; cookie = cookie-sized seg } in
+          let kept : Kept f x = record { address = l; cookie = cookie-sized g seg } in
           rw (recalled-more x s) (kept-more f x kept (recalled s) es (h .0) (h .1), filled-more f x kept (recalled s) es (h .0) (h .1))
       go false = h
 
@@ -103,13 +104,13 @@ module _ (f : Family) where
   unfolding after
   right-done m (connect t own server o offered out-len) s p r =
       record { family = r .family; stored = r .stored; alone = later-alone (m .clock) t (m .bans) (not-before m t (p .1 .0)) (r .alone) }
-  right-done m (answer t own server a seg) s p r =
+  right-done m (answer t own server a seg g) s p r =
       let h = not-before m t (p .1 .0) in
       let size-right = eqb-true (length server) (size (m .family)) (not-false _ (p .1 .1 .1 .0)) ∙ ap size (r .family) in
       record {
         family = r .family;
-        stored = store s (m .cache) server seg size-right (r .stored);
-        alone = chosen (Alone t) (isNegative a seg) _ _
+        stored = store g s (m .cache) server seg size-right (r .stored);
+        alone = chosen (Alone t) (isNegative g a seg) _ _
             (λ _. banned-alone (m .clock) t (m .bans) h (r .alone) (block server) (a .dest)) (λ _. later-alone (m .clock) t (m .bans) h (r .alone));
       }
   right-done m (failed t server port) s p r =

@@ -19,7 +19,7 @@ use Rattle.client.specs.declared.outcome.Event.the-variants as events
 -- 13 goes before whatever else applies
 never-applies : (m : Memory) (c : Call) → m .started ≡ false → applies (checks m c) NotStarted ≡ true
 never-applies m (connect t own server o offered out-len) e = rw e
-never-applies m (answer t own server a seg) e = rw e
+never-applies m (answer t own server a seg g) e = rw e
 never-applies m (failed t server port) e = rw e
 
 -- every call on a memory that was never started is refused 13
@@ -41,7 +41,7 @@ refused-start n r e = go (refusal (startChecks n)) e
 -- a call that is done returns 0
 done-number : (m : Memory) (c : Call) → numberOfEvent (doneEvent m c) ≡ 0
 done-number m (connect t own server o offered out-len) = refl
-done-number m (answer t own server a seg) = refl
+done-number m (answer t own server a seg g) = refl
 done-number m (failed t server port) = refl
 
 -- a call that is refused changes nothing and writes nothing

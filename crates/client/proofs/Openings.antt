@@ -7,6 +7,7 @@ use native.Mathlib.Omega.{arith}
 use lib.ListN.{length, take}
 use lib.Seq.{length-take-le}
 use borrow.Author.Tests.{ltb-false, not-false}
+use Rattle.segment.specs.declared.options.Coding.the-variants.{New}
 use Rattle.segment.specs.Write.{optionAllowed, optionBytes, canWrite, openingFields}
 use Rattle.segment.specs.declared.refusal.Check.the-variants.{Clear}
 use Rattle.segment.proofs.Exchange.{opening-can, opening-length}
@@ -56,7 +57,7 @@ module _ (m : Memory) (t : ℕ) (own server : List ℕ) (o : ActiveOpen) (offere
         (omega (arith, data-length, most)) (ltb-false out-len 1504 (p .1 .1 .1 .1 .0))
 
     -- and is written whole: the header, its options, and the data that is sent
-    pub opening-written : step m (connect t own server o offered out-len) .written ≡ 20 + length (optionBytes (o .mss) (not banned) (cookieOf entry)) + sent
+    pub opening-written : step m (connect t own server o offered out-len) .written ≡ 20 + length (optionBytes (o .mss) (not banned) New (cookieOf entry)) + sent
     opening-written =
         rw (step-done m (connect t own server o offered out-len) clear)
         (opening-length own server (openingFor banned o) (cookieOf entry) (take sent offered) out-len opening-ready ∙ rw data-length)

@@ -7,6 +7,7 @@ use native.Mathlib.Omega.{arith}
 use lib.ListN.{length}
 use lib.Seq.{length-take-le}
 use Rattle.segment.specs.Options.{isCookieLength}
+use Rattle.segment.specs.declared.options.Coding.the-variants.{New}
 use Rattle.segment.specs.Write.{optionLength, optionBytes}
 use Rattle.segment.specs.declared.refusal.Check.the-variants.{Clear}
 use Rattle.segment.proofs.Writes.{options-length}
@@ -41,8 +42,8 @@ module _ (m : Memory) (t : ℕ) (own server : List ℕ) (o : ActiveOpen) (offere
   sent-is : sent m t own server o offered out-len ≡ sentWith (m .family) banned entry (length offered)
   sent-is = sent-told m t own server o offered out-len clear
 
-  options-are : length (options m t own server o offered out-len) ≡ optionLength (not banned) (cookieLength entry)
-  options-are = options-length (o .mss) (not banned) (cookieOf entry) ∙ rw (length-take-le (cookieLength entry) (entry .cookie) (omega (arith, cookie-most entry)))
+  options-are : length (options m t own server o offered out-len) ≡ optionLength (not banned) New (cookieLength entry)
+  options-are = options-length (o .mss) (not banned) New (cookieOf entry) ∙ rw (length-take-le (cookieLength entry) (entry .cookie) (omega (arith, cookie-most entry)))
 
   left : sent m t own server o offered out-len ≤ mssFor (m .family) entry - length (options m t own server o offered out-len)
   left = omega (arith, sent-is, options-are, sent-left (m .family) banned entry (length offered))
@@ -50,7 +51,7 @@ module _ (m : Memory) (t : ℕ) (own server : List ℕ) (o : ActiveOpen) (offere
   leaves-room : LeavesRoom m t own server o offered out-len
   leaves-room =
       let ready = opening-ready m t own server o offered out-len h clear in
-      let short = length-most (not banned) (cookieLength entry) (length-allowed (not banned) entry) in
+      let short = length-most (not banned) New (cookieLength entry) (length-allowed (not banned) entry) in
       record {
         written =
             rw sent-is

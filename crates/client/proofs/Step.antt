@@ -10,6 +10,7 @@ use Rattle.segment.specs.Refusal.{Checks, refusal}
 use Rattle.segment.specs.Header.{fieldsOf}
 use Rattle.lists.specs.Bytes.{overwrite}
 use Rattle.segment.specs.Write.{openingBytes}
+use Rattle.segment.specs.declared.options.Codings.{Codings}
 use Rattle.segment.specs.declared.options.Mss.{Mss}
 use Rattle.segment.specs.declared.options.Options.{Options}
 use Rattle.segment.specs.declared.refusal.Refusal.{Refusal}
@@ -125,9 +126,9 @@ was-counted : (c : Check) (a : Attempt) (seg : List ℕ) {n : ℕ} → counted c
 was-counted Clear a seg e = (refl, cc)
 was-counted (Refused r) a seg e = absurd (let z : _≡_ {A = ℕ} 0 1 = cc in omega arith)
 
-module _ (m : Memory) (t : ℕ) (own server : List ℕ) (a : Attempt) (seg : List ℕ) where
+module _ (m : Memory) (t : ℕ) (own server : List ℕ) (a : Attempt) (seg : List ℕ) (g : Codings) where
   abbrev answering : Call
-  answering = answer t own server a seg
+  answering = answer t own server a seg g
 
   abbrev theChecks : Checks
   theChecks = answerChecks (m .started) (m .family) (isUntimely (m .clock) t) own server a seg
@@ -155,14 +156,14 @@ module _ (m : Memory) (t : ℕ) (own server : List ℕ) (a : Attempt) (seg : Lis
     answer-time = time-most (m .clock) t (every-check theChecks clear .1 .0)
 
     -- a negative answer, by the count and the option that counts
-    pub answer-negative : {o : Options} {negative : Bool} → o ≡ optionsIn seg → negative ≡ isUnacknowledged (a .sent) n && not (hasCookie (o .fast))
-        → negative ≡ isNegative a seg
-    answer-negative eo en = rw (en, eo, cookie-told seg, was-counted (refusal theChecks) a seg theReply .1)
+    pub answer-negative : {o : Options} {negative : Bool} → o ≡ optionsIn g seg → negative ≡ isUnacknowledged (a .sent) n && not (hasCookie (o .fast))
+        → negative ≡ isNegative g a seg
+    answer-negative eo en = rw (en, eo, cookie-told g seg, was-counted (refusal theChecks) a seg theReply .1)
 
     module _ {b cookie : List ℕ} {mss : Mss} {negative : Bool} {at known next : Memory} where
-      pub answer-done : at ≡ moved m t (m .cache) (m .bans) → b ≡ block server → cookie ≡ cookieIn seg → mss ≡ mssIn seg
+      pub answer-done : at ≡ moved m t (m .cache) (m .bans) → b ≡ block server → cookie ≡ cookieIn g seg → mss ≡ mssIn g seg
           → known ≡ withCache at (cacheAfter b cookie mss (at .cache))
-          → negative ≡ isNegative a seg → next ≡ withBans known (bansAfter t b (a .dest) negative (known .bans))
+          → negative ≡ isNegative g a seg → next ≡ withBans known (bansAfter t b (a .dest) negative (known .bans))
           → record { memory = next; event = events.Answered n; written = 0 } ≡ step m answering
       unfolding after
       answer-done et eb ec es ek ei en =

@@ -8,6 +8,7 @@ use lib.ListN.{length, take, getD, replicate}
 use lib.Seq.{take-nil}
 use Rattle.segment.specs.Header.{optionArea}
 use Rattle.segment.specs.Options.{isCookieLength, firstMss, optionsOf, cookieBytes}
+use Rattle.segment.specs.declared.options.Codings.{Codings}
 use Rattle.segment.specs.declared.options.FastOpenOption.{FastOpenOption}
 use Rattle.segment.specs.declared.options.FastOpenOption.the-variants.{Absent, Request, Cookie}
 use Rattle.lists.proofs.Bools.{chosen}
@@ -42,13 +43,13 @@ empty-sized = go (isCookieLength 0)
     go true = refl
     go false = refl
 
-pub cookie-sized : (seg : List ℕ) → sized (cookieIn seg)
-cookie-sized seg = go (optionsOf seg .fast) (inside-segment seg)
+pub cookie-sized : (g : Codings) (seg : List ℕ) → sized (cookieIn g seg)
+cookie-sized g seg = go (optionsOf g seg .fast) (inside-segment g seg)
   where
     go : (o : FastOpenOption) → AllInside (length (optionArea seg)) o → sized (cookieBytes o (optionArea seg))
     go Absent h = empty-sized
-    go Request h = empty-sized
-    go (Cookie at len) h = rw (cookie-bytes (optionArea seg) at len h, cookie-length-back len (h .size))
+    go (Request c) h = empty-sized
+    go (Cookie c at len) h = rw (cookie-bytes (optionArea seg) c at len h, cookie-length-back len (h .size))
 
 -- and it comes out of its block whole
 cookie-out : (c : List ℕ) → sized c → take (cond (isCookieLength (length c)) (length c) 0) (block c) ≡ c

@@ -7,6 +7,7 @@ use lib.Dec.{eqb}
 use lib.ListN.{length, take, getD, replicate}
 use Rattle.segment.specs.Options.{isCookieLength, firstMss}
 use Rattle.segment.specs.Write.{optionLength}
+use Rattle.segment.specs.declared.options.Coding.the-variants.{New}
 use Rattle.segment.specs.declared.options.Mss.{Mss}
 use Rattle.segment.specs.declared.options.Mss.the-variants.{NotGiven, Given}
 use Rattle.lists.specs.Bytes.{sameBytes}
@@ -65,7 +66,7 @@ mssFor f e = min (mssOr (defaultMss f) (e .mss)) (mssCap f)
 
 -- what the options leave of it; none where they are longer
 unfoldable pub dataRoom : Family → Entry → ℕ
-dataRoom f e = mssFor f e - optionLength true (cookieLength e)
+dataRoom f e = mssFor f e - optionLength true New (cookieLength e)
 
 -- What is stored next
 

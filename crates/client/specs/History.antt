@@ -39,7 +39,7 @@ storesWith s server cookie mss = cond (isStore cookie mss) (record { address = s
 
 abbrev pub storesAfter : List Store → Call → ℕ → List Store
 storesAfter s (connect t own server o offered out-len) number = s
-storesAfter s (answer t own server a seg) number = cond (eqb number 0) (storesWith s server (cookieIn seg) (mssIn seg)) s
+storesAfter s (answer t own server a seg g) number = cond (eqb number 0) (storesWith s server (cookieIn g seg) (mssIn g seg)) s
 storesAfter s (failed t server port) number = s
 
 -- What it has as stored

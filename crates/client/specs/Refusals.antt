@@ -63,7 +63,7 @@ answerChecks started f untimely own server a seg =
 -- the checks of a call
 abbrev pub checks : Memory → Call → Checks
 checks m (connect t own server o offered out-len) = openChecks (m .started) (m .family) (isUntimely (m .clock) t) own server (o .mss) out-len
-checks m (answer t own server a seg) = answerChecks (m .started) (m .family) (isUntimely (m .clock) t) own server a seg
+checks m (answer t own server a seg g) = answerChecks (m .started) (m .family) (isUntimely (m .clock) t) own server a seg
 checks m (failed t server port) = timely (m .started) (isUntimely (m .clock) t) ++ addressed (m .family) server
 
 -- what they come to: the first refusal, in 01's order, that applies

@@ -1,4 +1,4 @@
--- Document 01, "Client", and document 02, Item 9: the start, and one call on a memory with its outcome: the memory next, what happened and what is written.
+-- Document 01, "Client", and document 02, Items 4 and 9: the start, and one call on a memory with its outcome: the memory next, what happened and what is written.
 -- Assumes nothing.
 use Prim.Native.Nat.{ℕ, min}
 use mathlib.Core.List.{List, [], _∷_}
@@ -14,6 +14,7 @@ use Rattle.segment.specs.declared.refusal.Check.{Check}
 use Rattle.segment.specs.declared.refusal.Check.the-variants.{Clear, Refused}
 use Rattle.segment.specs.declared.options.Mss.{Mss}
 use Rattle.segment.specs.declared.options.Mss.the-variants.{NotGiven, Given}
+use Rattle.segment.specs.declared.options.Codings.{Codings}
 use Rattle.segment.specs.declared.options.FastOpenOption.{FastOpenOption}
 use Rattle.segment.specs.declared.options.FastOpenOption.the-variants.{Absent, Request, Cookie}
 use Rattle.segment.specs.declared.options.Options.{Options}
@@ -72,15 +73,15 @@ openingWith f banned e own server o offered out-len =
 
 -- An answer
 
--- the options that count, and what they bring: a cookie, empty for none, and an MSS
-abbrev pub optionsIn : List ℕ → Options
-optionsIn seg = optionsOf seg
+-- the options that count, under the codings given with the answer, and what they bring: a cookie, empty for none, and an MSS
+abbrev pub optionsIn : Codings → List ℕ → Options
+optionsIn g seg = optionsOf g seg
 
-abbrev pub cookieIn : List ℕ → List ℕ
-cookieIn seg = cookieBytes (optionsIn seg .fast) (optionArea seg)
+abbrev pub cookieIn : Codings → List ℕ → List ℕ
+cookieIn g seg = cookieBytes (optionsIn g seg .fast) (optionArea seg)
 
-abbrev pub mssIn : List ℕ → Mss
-mssIn seg = optionsIn seg .mss
+abbrev pub mssIn : Codings → List ℕ → Mss
+mssIn g seg = optionsIn g seg .mss
 
 abbrev pub isGiven : Mss → Bool
 isGiven NotGiven = false
@@ -99,14 +100,14 @@ abbrev pub isUnacknowledged : ℕ → ℕ → Bool
 isUnacknowledged sent count = not (eqb sent 0) && eqb count 0
 
 -- an answer sets a ban if it is a negative response: data was sent, none of it is acknowledged, and no cookie comes, or an empty one (02, Item 9)
-abbrev pub isNegative : Attempt → List ℕ → Bool
-isNegative a seg = isUnacknowledged (a .sent) (countIn a (fieldsOf seg)) && eqb (length (cookieIn seg)) 0
+abbrev pub isNegative : Codings → Attempt → List ℕ → Bool
+isNegative g a seg = isUnacknowledged (a .sent) (countIn a (fieldsOf seg)) && eqb (length (cookieIn g seg)) 0
 
 -- for the code: a cookie that is not empty comes, by the option that counts (law `cookie-told`)
 abbrev pub hasCookie : FastOpenOption → Bool
 hasCookie Absent = false
-hasCookie Request = false
-hasCookie (Cookie at len) = true
+hasCookie (Request coding) = false
+hasCookie (Cookie coding at len) = true
 
 abbrev pub bansAfter : ℕ → List ℕ → ℕ → Bool → List Ban → List Ban
 bansAfter t b port negative bans = cond negative (addBan t b port bans) bans
@@ -119,9 +120,9 @@ moved m t es bans = record { cache = es; bans = bans; started = m .started; fami
 
 unfoldable pub after : Memory → Call → Memory
 after m (connect t own server o offered out-len) = moved m t (m .cache) (m .bans)
-after m (answer t own server a seg) =
-    moved m t (cacheAfter (block server) (cookieIn seg) (mssIn seg) (m .cache))
-    (bansAfter t (block server) (a .dest) (isNegative a seg) (m .bans))
+after m (answer t own server a seg g) =
+    moved m t (cacheAfter (block server) (cookieIn g seg) (mssIn g seg) (m .cache))
+    (bansAfter t (block server) (a .dest) (isNegative g a seg) (m .bans))
 after m (failed t server port) = moved m t (m .cache) (addBan t (block server) port (m .bans))
 
 -- whether the server of an opening is banned at its time, and what is stored for it
@@ -133,12 +134,12 @@ storedFor m server = entryFor (block server) (m .cache)
 
 abbrev pub doneEvent : Memory → Call → Event
 doneEvent m (connect t own server o offered out-len) = events.Opened (sentWith (m .family) (bannedFor m t server o) (storedFor m server) (length offered))
-doneEvent m (answer t own server a seg) = events.Answered (countIn a (fieldsOf seg))
+doneEvent m (answer t own server a seg g) = events.Answered (countIn a (fieldsOf seg))
 doneEvent m (failed t server port) = events.Reported
 
 abbrev pub doneOutput : Memory → Call → List ℕ
 doneOutput m (connect t own server o offered out-len) = openingWith (m .family) (bannedFor m t server o) (storedFor m server) own server o offered out-len
-doneOutput m (answer t own server a seg) = []
+doneOutput m (answer t own server a seg g) = []
 doneOutput m (failed t server port) = []
 
 -- A call: refused, it changes nothing

@@ -4,6 +4,7 @@ use crate::state::PLACES;
 use endpoint::address::Family;
 use endpoint::address::block_of;
 use endpoint::address::same_block;
+use segment::options::Coding;
 use segment::options::Mss;
 use segment::options::first_mss;
 use segment::options::is_cookie_length;
@@ -121,7 +122,7 @@ pub(crate) fn data_room(f: Family, e: Entry) -> usize
 {
     let mss = mss_for(f, e) as usize;
     let len = cookie_length(e);
-    let options = option_length(true, len);
+    let options = option_length(true, Coding::New, len);
     if mss < options {
         return 0;
     }

@@ -25,6 +25,7 @@ use endpoint::address::family_of;
 use endpoint::address::is_size;
 use endpoint::checks::check_name;
 use segment::header::option_area;
+use segment::options::Codings;
 use segment::options::FastOpenOption;
 use segment::options::Mss;
 use segment::options::cookie;
@@ -201,7 +202,7 @@ fn is_negative(sent: u32, acknowledged: u32, fast: FastOpenOption) -> bool
     }
     match fast {
         FastOpenOption::Absent => true,
-        FastOpenOption::Request => true,
+        FastOpenOption::Request(_) => true,
         FastOpenOption::Cookie { .. } => false,
     }
 }
@@ -217,9 +218,17 @@ fn ban_if(m: Memory, time: u64, b: [u8; 16], port: u16, negative: bool) -> Memor
     m
 }
 
-// Takes the answer to an attempt. The event has how many bytes of the data sent it acknowledges.
-pub fn answer(m: Memory, time: u64, own: &[u8], server: &[u8], a: Attempt, seg: &[u8]) -> Outcome
-    ensures { λ r. ⌜ r ≡ step m (Call.answer time (now (own .entry)) (now (server .entry)) a (now (seg .entry))) ⌝ }
+// Takes the answer to an attempt, whose Fast Open option counts in these codings. The event has how many bytes of the data sent it acknowledges.
+pub fn answer(
+    m: Memory,
+    time: u64,
+    own: &[u8],
+    server: &[u8],
+    a: Attempt,
+    seg: &[u8],
+    codings: Codings,
+) -> Outcome
+    ensures { λ r. ⌜ r ≡ step m (Call.answer time (now (own .entry)) (now (server .entry)) a (now (seg .entry)) codings) ⌝ }
 {
     let family = m.family;
     let next = at_time(m, time);
@@ -227,7 +236,7 @@ pub fn answer(m: Memory, time: u64, own: &[u8], server: &[u8], a: Attempt, seg: 
         Reply::Dropped(why) => refused(m, why),
         Reply::Acknowledged(n) => {
             let b = block_of(server);
-            let options = segment_options(seg);
+            let options = segment_options(codings, seg);
             let fast = options.fast;
             let mss = options.mss;
             let known = learn(next, b, cookie(option_area(seg), fast), mss);

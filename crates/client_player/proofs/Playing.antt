@@ -26,7 +26,7 @@ module _ (m : Memory) (o : Order) (a b d : List ℕ) where
   lent-to-by : (x : Order) → lentTo (requestWith x a b d (min (outLen x) 2048)) ≡ min (outLen x) 2048
   lent-to-by (Start n) = refl
   lent-to-by (Open e mss out k) = refl
-  lent-to-by (Answer e sent k) = refl
+  lent-to-by (Answer e sent k both) = refl
   lent-to-by (Failed t n p) = refl
 
   -- an order that was read, with the first bytes of the output

@@ -1,6 +1,7 @@
 -- What is read, with the bytes in the buffers, is the request that the line is. Assumes nothing.
 use Prim.Native.Nat.{ℕ}
 use mathlib.Core.Path.{_≡_, refl, _∙_}
+use mathlib.Core.Bool.{Bool}
 use mathlib.Core.List.{List}
 use mathlib.Core.Option.{Option, none, some}
 use lib.ListN.{length}
@@ -32,18 +33,19 @@ module _ (a b d : List ℕ) where
   open-of (some t) (some n) (some p) (some m) (some q) (some i) (some j) (some k) none = refl
   open-of (some t) (some n) (some p) (some m) (some q) (some i) (some j) (some k) (some l) = refl
 
-  answer-of : (t n p m q i j l : Option ℕ)
-      → requestRead (readingOf (some answerOrder ⊛ endsIf (endsRead (some endsWith ⊛ t ⊛ n ⊛ p ⊛ m ⊛ q ⊛ i)) ⊛ j ⊛ l)) a b d
-      ≡ some answering ⊛ t ⊛ front a n ⊛ p ⊛ front b m ⊛ q ⊛ i ⊛ j ⊛ front d l
-  answer-of none n p m q i j l = refl
-  answer-of (some t) none p m q i j l = refl
-  answer-of (some t) (some n) none m q i j l = refl
-  answer-of (some t) (some n) (some p) none q i j l = refl
-  answer-of (some t) (some n) (some p) (some m) none i j l = refl
-  answer-of (some t) (some n) (some p) (some m) (some q) none j l = refl
-  answer-of (some t) (some n) (some p) (some m) (some q) (some i) none l = refl
-  answer-of (some t) (some n) (some p) (some m) (some q) (some i) (some j) none = refl
-  answer-of (some t) (some n) (some p) (some m) (some q) (some i) (some j) (some l) = refl
+  answer-of : (t n p m q i j l : Option ℕ) (both : Option Bool)
+      → requestRead (readingOf (some answerOrder ⊛ endsIf (endsRead (some endsWith ⊛ t ⊛ n ⊛ p ⊛ m ⊛ q ⊛ i)) ⊛ j ⊛ l ⊛ both)) a b d
+      ≡ some answering ⊛ t ⊛ front a n ⊛ p ⊛ front b m ⊛ q ⊛ i ⊛ j ⊛ front d l ⊛ both
+  answer-of none n p m q i j l both = refl
+  answer-of (some t) none p m q i j l both = refl
+  answer-of (some t) (some n) none m q i j l both = refl
+  answer-of (some t) (some n) (some p) none q i j l both = refl
+  answer-of (some t) (some n) (some p) (some m) none i j l both = refl
+  answer-of (some t) (some n) (some p) (some m) (some q) none j l both = refl
+  answer-of (some t) (some n) (some p) (some m) (some q) (some i) none l both = refl
+  answer-of (some t) (some n) (some p) (some m) (some q) (some i) (some j) none both = refl
+  answer-of (some t) (some n) (some p) (some m) (some q) (some i) (some j) (some l) none = refl
+  answer-of (some t) (some n) (some p) (some m) (some q) (some i) (some j) (some l) (some both) = refl
 
   failed-of : (t n p : Option ℕ) → requestRead (readingOf (some failedOrder ⊛ t ⊛ n ⊛ p)) a b d ≡ some failing ⊛ t ⊛ front a n ⊛ p
   failed-of none n p = refl
@@ -68,10 +70,10 @@ module _ (s a b d a′ b′ d′ : List ℕ) (u : length a ≡ 4096) (v : length
       (numberAt 6 s) (numberAt 7 s) (outAt 8 s) (countAt 9 s (length d))
       ∙ rw (bytes-front 2 s a u, bytes-front 4 s b v, bytes-front 9 s d w, out-lendable 8 s))
 
-  pub answer-read : r ≡ answerReading s (length a) (length b) (length d) → a′ ≡ bytesOver 2 s a → b′ ≡ bytesOver 4 s b → d′ ≡ bytesOver 8 s d
-      → requestRead r a′ b′ d′ ≡ answerIn s
-  answer-read e p q x =
+  pub answer-read : (both : Option Bool) → r ≡ answerReading both s (length a) (length b) (length d) → a′ ≡ bytesOver 2 s a → b′ ≡ bytesOver 4 s b → d′ ≡ bytesOver 8 s d
+      → requestRead r a′ b′ d′ ≡ answerIn both s
+  answer-read both e p q x =
       rw (e, p, q, x)
       (answer-of (bytesOver 2 s a) (bytesOver 4 s b) (bytesOver 8 s d) (timeAt 1 s) (countAt 2 s (length a)) (portAt 3 s) (countAt 4 s (length b)) (portAt 5 s)
-      (numberAt 6 s) (numberAt 7 s) (countAt 8 s (length d))
+      (numberAt 6 s) (numberAt 7 s) (countAt 8 s (length d)) both
       ∙ rw (bytes-front 2 s a u, bytes-front 4 s b v, bytes-front 8 s d w))

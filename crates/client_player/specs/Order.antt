@@ -1,6 +1,7 @@
 -- For the code alone: a request as it is read, with the lengths of its byte strings, whose bytes are at the start of three buffers.
 -- Assumes nothing.
 use Prim.Native.Nat.{ℕ, min}
+use mathlib.Core.Bool.{Bool}
 use mathlib.Core.List.{List}
 use mathlib.Core.Option.{Option, none, some}
 use lib.ListN.{take}
@@ -37,8 +38,8 @@ startOrder n = Start n
 abbrev pub openOrder : Ends → ℕ → ℕ → ℕ → Order
 openOrder e mss out k = Open e mss out k
 
-abbrev pub answerOrder : Ends → ℕ → ℕ → Order
-answerOrder e sent k = Answer e sent k
+abbrev pub answerOrder : Ends → ℕ → ℕ → Bool → Order
+answerOrder e sent k both = Answer e sent k both
 
 abbrev pub failedOrder : ℕ → ℕ → ℕ → Order
 failedOrder t n p = Failed t n p
@@ -54,8 +55,8 @@ startReading s = readingOf (some startOrder ⊛ timeAt 1 s)
 abbrev pub openReading : List ℕ → ℕ → ℕ → ℕ → Reading
 openReading s n m k = readingOf (some openOrder ⊛ endsIf (endsReading s n m) ⊛ numberAt 7 s ⊛ outAt 8 s ⊛ countAt 9 s k)
 
-abbrev pub answerReading : List ℕ → ℕ → ℕ → ℕ → Reading
-answerReading s n m k = readingOf (some answerOrder ⊛ endsIf (endsReading s n m) ⊛ numberAt 7 s ⊛ countAt 8 s k)
+abbrev pub answerReading : Option Bool → List ℕ → ℕ → ℕ → ℕ → Reading
+answerReading both s n m k = readingOf (some answerOrder ⊛ endsIf (endsReading s n m) ⊛ numberAt 7 s ⊛ countAt 8 s k ⊛ both)
 
 abbrev pub failedReading : List ℕ → ℕ → Reading
 failedReading s n = readingOf (some failedOrder ⊛ timeAt 1 s ⊛ countAt 2 s n ⊛ portAt 3 s)
@@ -64,14 +65,14 @@ failedReading s n = readingOf (some failedOrder ⊛ timeAt 1 s ⊛ countAt 2 s n
 abbrev pub outLen : Order → ℕ
 outLen (Start n) = 0
 outLen (Open e mss out k) = out
-outLen (Answer e sent k) = 0
+outLen (Answer e sent k both) = 0
 outLen (Failed t n p) = 0
 
 -- the request, with the bytes in the buffers and an output of so many bytes
 abbrev pub requestWith : Order → List ℕ → List ℕ → List ℕ → ℕ → Request
 requestWith (Start n) a b d out = starting n
 requestWith (Open e mss o k) a b d out = opening (e .time) (take (e .own) a) (e .source) (take (e .server) b) (e .dest) (e .iss) mss out (take k d)
-requestWith (Answer e sent k) a b d out = answering (e .time) (take (e .own) a) (e .source) (take (e .server) b) (e .dest) (e .iss) sent (take k d)
+requestWith (Answer e sent k both) a b d out = answering (e .time) (take (e .own) a) (e .source) (take (e .server) b) (e .dest) (e .iss) sent (take k d) both
 requestWith (Failed t n p) a b d out = failing t (take n a) p
 
 abbrev pub requestRead : Reading → List ℕ → List ℕ → List ℕ → Option Request

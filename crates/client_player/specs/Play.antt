@@ -32,14 +32,14 @@ outcomeOf m (call c) = step m c
 abbrev pub lentTo : Request → ℕ
 lentTo (start n) = 0
 lentTo (call (connect t own server o offered out)) = out
-lentTo (call (answer t own server a seg)) = 0
+lentTo (call (answer t own server a seg g)) = 0
 lentTo (call (failed t server port)) = 0
 
 -- and what is there after it; other calls write nothing
 abbrev pub lentAfter : Memory → Request → List ℕ → List ℕ
 lentAfter m (start n) lent = lent
 lentAfter m (call (connect t own server o offered out)) lent = overwrite (outputOf m (connect t own server o offered out)) lent
-lentAfter m (call (answer t own server a seg)) lent = lent
+lentAfter m (call (answer t own server a seg g)) lent = lent
 lentAfter m (call (failed t server port)) lent = lent
 
 -- What a line comes to: the memory next, the reply, and the text that is printed.

@@ -15,6 +15,7 @@ use client::outcome::Outcome;
 use client::outcome::Started;
 use client::outcome::event_number;
 use client::state::Memory;
+use segment::options::codings_of;
 use text::line::LONGEST;
 use text::line::MOST_BYTES;
 use text::line::Reply;
@@ -77,7 +78,12 @@ fn make_request(m: Memory, order: Order, a: &[u8], b: &[u8], d: &[u8], lent: &mu
             first(d, offered),
             lent,
         ),
-        Order::Answer { ends, sent, seg } => answer(
+        Order::Answer {
+            ends,
+            sent,
+            seg,
+            both,
+        } => answer(
             m,
             ends.time,
             first(a, ends.own),
@@ -89,6 +95,7 @@ fn make_request(m: Memory, order: Order, a: &[u8], b: &[u8], d: &[u8], lent: &mu
                 sent,
             },
             first(d, seg),
+            codings_of(both),
         ),
         Order::Failed { time, server, port } => failed(m, time, first(a, server), port),
     }

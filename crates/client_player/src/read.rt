@@ -1,4 +1,6 @@
 // A line's words, read: which request it is, its numbers, and the lengths of its byte strings, whose bytes go to the start of three buffers.
+use text::argument::Switch;
+use text::argument::both_at;
 use text::argument::bytes_at;
 use text::argument::number_at;
 use text::argument::out_at;
@@ -12,7 +14,7 @@ use text::word::is_call;
 ghost use mathlib.Core.Path.{_≡_};
 ghost use mathlib.Core.Option.{some};
 ghost use lib.ListN.{length};
-ghost use Rattle.text.specs.Argument.{_⊛_, valueOf, value16, value32, countOf, bytesOver};
+ghost use Rattle.text.specs.Argument.{_⊛_, valueOf, value16, value32, truthOf, countOf, bytesOver};
 ghost use Rattle.client_player.specs.Request.{requestIn};
 ghost use Rattle.client_player.specs.Order.{readingOf, endsRead, endsIf, endsWith, startOrder, openOrder, answerOrder, failedOrder};
 ghost use Rattle.client_player.specs.Order.{endsReading, startReading, openReading, answerReading, failedReading, outLen, requestRead};
@@ -48,6 +50,7 @@ pub(crate) enum Order {
         ends: Ends,
         sent: u32,
         seg: usize,
+        both: bool,
     },
     Failed {
         time: u64,
@@ -147,8 +150,8 @@ fn open_order(ends: ReadEnds, mss: Number32, out_len: Number, offered: ByteStrin
     })
 }
 
-fn answer_order(ends: ReadEnds, sent: Number32, seg: ByteString) -> Reading
-    ensures { λ r. ⌜ r ≡ readingOf (some answerOrder ⊛ endsIf ends ⊛ value32 sent ⊛ countOf seg) ⌝ }
+fn answer_order(ends: ReadEnds, sent: Number32, seg: ByteString, both: Switch) -> Reading
+    ensures { λ r. ⌜ r ≡ readingOf (some answerOrder ⊛ endsIf ends ⊛ value32 sent ⊛ countOf seg ⊛ truthOf both) ⌝ }
 {
     let ReadEnds::Known(ends) = ends else {
         return Reading::Bad;
@@ -159,7 +162,15 @@ fn answer_order(ends: ReadEnds, sent: Number32, seg: ByteString) -> Reading
     let ByteString::Count(seg) = seg else {
         return Reading::Bad;
     };
-    Reading::Known(Order::Answer { ends, sent, seg })
+    let Switch::Value(both) = both else {
+        return Reading::Bad;
+    };
+    Reading::Known(Order::Answer {
+        ends,
+        sent,
+        seg,
+        both,
+    })
 }
 
 fn failed_order(time: Number, server: ByteString, port: Number16) -> Reading
@@ -213,9 +224,15 @@ fn read_open(line: &[u8], own: &mut [u8], server: &mut [u8], offered: &mut [u8])
     open_order(ends, mss, out_len, n)
 }
 
-// answer TIME OWN-ADDRESS OWN-PORT SERVER-ADDRESS SERVER-PORT OURS SENT SEGMENT
-fn read_answer(line: &[u8], own: &mut [u8], server: &mut [u8], seg: &mut [u8]) -> Reading
-    ensures { λ r. ⌜ r ≡ answerReading (now (line .entry)) (length (now (own .entry))) (length (now (server .entry))) (length (now (seg .entry))) ⌝ }
+// answer TIME OWN-ADDRESS OWN-PORT SERVER-ADDRESS SERVER-PORT OURS SENT SEGMENT, with new|both as it was read
+fn read_answer(
+    line: &[u8],
+    own: &mut [u8],
+    server: &mut [u8],
+    seg: &mut [u8],
+    both: Switch,
+) -> Reading
+    ensures { λ r. ⌜ r ≡ answerReading (truthOf both) (now (line .entry)) (length (now (own .entry))) (length (now (server .entry))) (length (now (seg .entry))) ⌝ }
     ensures { λ _. ⌜ now (own .exit) ≡ bytesOver 2 (now (line .entry)) (now (own .entry)) ⌝ }
     ensures { λ _. ⌜ now (server .exit) ≡ bytesOver 4 (now (line .entry)) (now (server .entry)) ⌝ }
     ensures { λ _. ⌜ now (seg .exit) ≡ bytesOver 8 (now (line .entry)) (now (seg .entry)) ⌝ }
@@ -223,7 +240,7 @@ fn read_answer(line: &[u8], own: &mut [u8], server: &mut [u8], seg: &mut [u8]) -
     let ends = read_ends(line, own, server);
     let sent = number_at(line, 7);
     let n = bytes_at(line, 8, seg);
-    answer_order(ends, sent, n)
+    answer_order(ends, sent, n, both)
 }
 
 // failed TIME SERVER-ADDRESS SERVER-PORT
@@ -246,7 +263,10 @@ pub(crate) fn read_request(line: &[u8], a: &mut [u8], b: &mut [u8], d: &mut [u8]
         return read_open(line, a, b, d);
     }
     if is_call(line, b"answer", 8) {
-        return read_answer(line, a, b, d);
+        return read_answer(line, a, b, d, Switch::Value(false));
+    }
+    if is_call(line, b"answer", 9) {
+        return read_answer(line, a, b, d, both_at(line, 9));
     }
     if is_call(line, b"failed", 3) {
         return read_failed(line, a);

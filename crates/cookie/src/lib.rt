@@ -73,14 +73,14 @@ pub fn check_option(keys: Keys, b: [u8; 16], area: &[u8], fast: FastOpenOption) 
 {
     match fast {
         FastOpenOption::Absent => no_option(),
-        FastOpenOption::Request => {
+        FastOpenOption::Request(_) => {
             let present = keys.present;
             checked(false, true, make_cookie(present, b))
         }
-        FastOpenOption::Cookie { at, len } => check_cookie(
+        FastOpenOption::Cookie { coding, at, len } => check_cookie(
             keys,
             b,
-            cookie(area, FastOpenOption::Cookie { at, len }),
+            cookie(area, FastOpenOption::Cookie { coding, at, len }),
         ),
     }
 }

@@ -1,24 +1,26 @@
 -- The rules on the parts of a view are the rules on the view. Assumes nothing.
 use Prim.Native.Nat.{ℕ}
-use mathlib.Core.Path.{_≡_, refl}
+use mathlib.Core.Path.{_≡_, refl, ap, sym, _∙_}
 use mathlib.Core.Bool.{Bool, true, false, cond, _&&_, true≢false, false≢true}
 use mathlib.Core.List.{List}
 use native.Mathlib.Omega.{arith}
 use lib.Dec.{ltb}
 use Rattle.segment.specs.Header.{fieldsOf, kindOf, optionArea}
-use Rattle.segment.specs.Options.{readOptions}
+use Rattle.segment.specs.Options.{readOptions, codingOf}
 use Rattle.segment.specs.declared.refusal.Refusal.{Refusal}
 use Rattle.segment.specs.declared.refusal.Check.{Check}
 use Rattle.segment.specs.declared.refusal.Check.the-variants.{Clear, Refused}
 use Rattle.segment.specs.declared.options.FastOpenOption.{FastOpenOption}
 use Rattle.segment.specs.declared.options.FastOpenOption.the-variants.{Absent, Request, Cookie}
+use Rattle.segment.specs.declared.options.Options.{Options}
 use Rattle.segment.specs.declared.header.Header.{Header}
 use Rattle.segment.specs.declared.header.Kind.{Kind}
 use Rattle.segment.specs.declared.header.Kind.the-variants.{Syn, Rst, Ack, Other}
+use Rattle.segment.proofs.Cookie.{syn-options}
 use Rattle.protocol.specs.Cookie.{nothing, found, right}
 use Rattle.protocol.specs.Refusals.{kindChecks}
 use Rattle.protocol.specs.Table.{newSlot}
-use Rattle.protocol.specs.Step.{cookiesEnabled, isEarly, isFresh, newEvent, newStatus, segmentEvent, slotAfter, writesSynAck, freshWith}
+use Rattle.protocol.specs.Step.{cookiesEnabled, isEarly, isFresh, newEvent, newStatus, segmentEvent, slotAfter, writesSynAck, freshWith, codingFor}
 use Rattle.protocol.specs.declared.state.Keys.{Keys}
 use Rattle.protocol.specs.declared.state.View.{View}
 use Rattle.protocol.proofs.Cookie.{carried-syn, never-right, no-cookie}
@@ -63,14 +65,19 @@ module _ (keys : Keys) (b area : List ℕ) where
       → (enabled && right keys b (found f area) ≡ false) × (enabled && isFreshFor keys b (found f area) ≡ false)
   plain false f e = (refl, refl)
   plain true Absent e = (never-right keys b nothing (λ w. no-cookie w b .0), refl)
-  plain true Request e = absurd (true≢false e)
-  plain true (Cookie at len) e = absurd (true≢false e)
+  plain true (Request coding) e = absurd (true≢false e)
+  plain true (Cookie coding at len) e = absurd (true≢false e)
 
   by-option : (enabled : Bool) (f : FastOpenOption) → isCounted (cond enabled f Absent) ≡ true
       → (right keys b (found (cond enabled f Absent) area) ≡ enabled && right keys b (found f area))
       × (isFreshFor keys b (found (cond enabled f Absent) area) ≡ enabled && isFreshFor keys b (found f area))
   by-option false f e = absurd (false≢true e)
   by-option true f e = (refl, refl)
+
+-- it counts only where cookies are enabled, and then it is the one that was found
+counted-found : (enabled : Bool) (f : FastOpenOption) → isCounted (cond enabled f Absent) ≡ true → cond enabled f Absent ≡ f
+counted-found false f e = absurd (false≢true e)
+counted-found true f e = refl
 
 -- and whatever it is, it is answered
 pub new-writes : (early : Bool) (n : ℕ) → writesSynAck (newEvent early n) ≡ true
@@ -94,13 +101,18 @@ module _ (v : View) where
   new-fresh b seg true n = refl
   new-fresh b seg false n = refl
 
-  module _ (b seg : List ℕ) (syn : kindOf (fieldsOf seg .flags) ≡ Syn) {fast : FastOpenOption} (ef : fast ≡ countedIn (cookiesEnabled v) (optionArea seg)) where
+  module _ (b seg : List ℕ) (syn : kindOf (fieldsOf seg .flags) ≡ Syn) {fast : FastOpenOption} (ef : fast ≡ countedIn (cookiesEnabled v) (v .settings .codings) (optionArea seg)) where
     pub opens-plain : isCounted fast ≡ false → (isEarly v b seg ≡ false) × (isFresh v b seg ≡ false)
-    opens-plain e = rw (early-is v b seg, fresh-is v b seg, carried-syn seg syn) (plain (v .keys) b (optionArea seg) (cookiesEnabled v) (readOptions (optionArea seg) .fast) (rw ef at e))
+    opens-plain e = rw (early-is v b seg, fresh-is v b seg, carried-syn (v .settings .codings) seg syn) (plain (v .keys) b (optionArea seg) (cookiesEnabled v) (readOptions (v .settings .codings) (optionArea seg) .fast) (rw ef at e))
 
     pub opens-by-option : isCounted fast ≡ true
         → (right (v .keys) b (found fast (optionArea seg)) ≡ isEarly v b seg) × (isFreshFor (v .keys) b (found fast (optionArea seg)) ≡ isFresh v b seg)
-    opens-by-option e = rw (ef, early-is v b seg, fresh-is v b seg, carried-syn seg syn) (by-option (v .keys) b (optionArea seg) (cookiesEnabled v) (readOptions (optionArea seg) .fast) (rw ef at e))
+    opens-by-option e = rw (ef, early-is v b seg, fresh-is v b seg, carried-syn (v .settings .codings) seg syn) (by-option (v .keys) b (optionArea seg) (cookiesEnabled v) (readOptions (v .settings .codings) (optionArea seg) .fast) (rw ef at e))
+
+    pub opens-in-coding : isCounted fast ≡ true → codingOf fast ≡ codingFor v seg
+    opens-in-coding e =
+        ap codingOf (ef ∙ counted-found (cookiesEnabled v) (readOptions (v .settings .codings) (optionArea seg) .fast) (rw ef at e))
+        ∙ ap (λ (o : Options). codingOf (o .fast)) (sym (syn-options (v .settings .codings) seg syn))
 
   -- Later segments
 

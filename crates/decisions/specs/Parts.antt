@@ -10,6 +10,7 @@ use Rattle.segment.specs.Options.{readOptions}
 use Rattle.segment.specs.declared.refusal.Refusal.the-variants.{Flags, NameInUse, TableFull}
 use Rattle.segment.specs.declared.refusal.Check.{Check}
 use Rattle.segment.specs.declared.refusal.Check.the-variants.{Clear, Refused}
+use Rattle.segment.specs.declared.options.Codings.{Codings}
 use Rattle.segment.specs.declared.options.FastOpenOption.{FastOpenOption}
 use Rattle.segment.specs.declared.options.FastOpenOption.the-variants.{Absent, Request, Cookie}
 use Rattle.segment.specs.declared.header.Header.{Header}
@@ -59,13 +60,13 @@ abbrev pub enabledWith : StoredSettings → ℕ → Bool
 enabledWith g pending = g .on && ltb pending (g .limit)
 
 -- the option by which a new opening is answered, from its option area: none where cookies are not enabled
-abbrev pub countedIn : Bool → List ℕ → FastOpenOption
-countedIn enabled area = cond enabled (readOptions area .fast) Absent
+abbrev pub countedIn : Bool → Codings → List ℕ → FastOpenOption
+countedIn enabled g area = cond enabled (readOptions g area .fast) Absent
 
 abbrev pub isCounted : FastOpenOption → Bool
 isCounted Absent = false
-isCounted Request = true
-isCounted (Cookie at len) = true
+isCounted (Request coding) = true
+isCounted (Cookie coding at len) = true
 
 -- a fresh cookie goes with the SYN-ACK to an option
 abbrev pub isFreshFor : Keys → List ℕ → Carried → Bool

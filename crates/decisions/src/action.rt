@@ -7,6 +7,7 @@ use protocol::state::Keys;
 use protocol::state::StoredSettings;
 use segment::header::Header;
 use segment::header::Kind;
+use segment::options::Codings;
 use segment::options::FastOpenOption;
 use segment::options::read_options;
 use table::slot::after_reset;
@@ -61,13 +62,13 @@ pub fn cookies_enabled(g: StoredSettings, pending: u32) -> bool
 }
 
 // The Fast Open option by which a new opening is answered: none where cookies are not enabled.
-pub fn counted_option(enabled: bool, area: &[u8]) -> FastOpenOption
-    ensures { λ r. ⌜ r ≡ countedIn enabled (now (area .entry)) ⌝ }
+pub fn counted_option(enabled: bool, codings: Codings, area: &[u8]) -> FastOpenOption
+    ensures { λ r. ⌜ r ≡ countedIn enabled codings (now (area .entry)) ⌝ }
 {
     if !enabled {
         return FastOpenOption::Absent;
     }
-    let options = read_options(area);
+    let options = read_options(codings, area);
     options.fast
 }
 
@@ -77,8 +78,8 @@ pub fn counts(fast: FastOpenOption) -> bool
 {
     match fast {
         FastOpenOption::Absent => false,
-        FastOpenOption::Request => true,
-        FastOpenOption::Cookie { at: _, len: _ } => true,
+        FastOpenOption::Request(_) => true,
+        FastOpenOption::Cookie { .. } => true,
     }
 }
 

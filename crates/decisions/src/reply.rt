@@ -2,6 +2,7 @@
 use endpoint::address::size_of;
 use protocol::slots::Slot;
 use protocol::state::LocalEndpoint;
+use segment::options::Coding;
 use segment::write::SynAck;
 use segment::write::write_syn_ack;
 use table::slot::accepted_with;
@@ -20,10 +21,11 @@ pub fn write_from(
     dst: &[u8],
     s: Slot,
     fresh: bool,
+    coding: Coding,
     cookie: [u8; 8],
 ) -> usize
-    ensures { λ r. ⌜ r ≡ length (synAckBytes (ownAddress local) (now (dst .entry)) (synAckFrom local mss s fresh) cookie (length (now (out .entry)))) ⌝ }
-    ensures { λ _. ⌜ now (out .exit) ≡ overwrite (synAckBytes (ownAddress local) (now (dst .entry)) (synAckFrom local mss s fresh) cookie (length (now (out .entry)))) (now (out .entry)) ⌝ }
+    ensures { λ r. ⌜ r ≡ length (synAckBytes (ownAddress local) (now (dst .entry)) (synAckFrom local mss s fresh coding) cookie (length (now (out .entry)))) ⌝ }
+    ensures { λ _. ⌜ now (out .exit) ≡ overwrite (synAckBytes (ownAddress local) (now (dst .entry)) (synAckFrom local mss s fresh coding) cookie (length (now (out .entry)))) (now (out .entry)) ⌝ }
 {
     let family = local.family;
     let own = local.own;
@@ -37,6 +39,7 @@ pub fn write_from(
         accepted: accepted_with(status),
         mss,
         fresh,
+        coding,
     };
     write_syn_ack(out, &own[..n], dst, a, cookie)
 }

@@ -20,6 +20,7 @@ use listener::outcome::accepted_part;
 use protocol::outcome::Event;
 use protocol::state::Listener;
 use protocol::state::Settings;
+use segment::options::Codings;
 use segment::refusal::number;
 use segment::write::LONGEST_OPENING;
 use segment::write::LONGEST_SYN_ACK;
@@ -64,7 +65,15 @@ fn exchange(m: Memory, l: Listener, time: u64, port: u16) -> Ends {
         iss: 1000,
         sent,
     };
-    let answered = answer(opened.memory, time, &CLIENT, &SERVER, attempt, syn_ack);
+    let answered = answer(
+        opened.memory,
+        time,
+        &CLIENT,
+        &SERVER,
+        attempt,
+        syn_ack,
+        Codings::NewOnly,
+    );
     let event = answered.event;
     let ClientEvent::Answered(n) = event else {
         return finish(m, l, client_number(event));
@@ -84,6 +93,7 @@ fn main() {
         early_room: 1460,
         hold: 1000,
         mss: 1460,
+        codings: Codings::NewOnly,
     };
     let set = set_settings(server.listener, 0, settings);
     print_line(b"first opening, ", b"to get a cookie");

@@ -21,7 +21,7 @@ use Rattle.protocol.proofs.StartOf as starting
 use Rattle.client.specs.Step as client
 use Rattle.client.specs.declared.outcome.Event.the-variants.{Answered}
 use Rattle.client.specs.declared.state.Memory.{Memory}
-use Rattle.handshake.specs.Handshake.{Asked, opening, sent, Arrival, arriving, returning, Ends, carriedWith, stored, isBanned, Issued, present, Taken, Later, renewed, current, updated, Admits, CookieRequest, upToEarlyRoom, EarlyData, Outdated, NextOpening, CookieReplaced, Handshake}
+use Rattle.handshake.specs.Handshake.{Asked, opening, sent, Arrival, arriving, Receipt, returning, Ends, carriedWith, stored, isBanned, Issued, present, Taken, Later, renewed, current, updated, Admits, CookieRequest, upToEarlyRoom, EarlyData, Outdated, NextOpening, CookieReplaced, Handshake}
 use Rattle.handshake.proofs.Opening.{payload-length, opening-read-by-listener, wire-clear, kind-checked, none-sent, carried-stored, carried, right-cookie}
 use Rattle.handshake.proofs.SynAck.{cookie-if, syn-ack-read-by-client}
 
@@ -34,7 +34,7 @@ module _ (l : Listener) (a : Asked) (m m′ : Memory) (l′ : Listener) (a′ : 
   now : stored m′ a′ ≡ cookieUnder (l′ .keys .present) (block (a′ .own))
   now = rw (n .server, n .own, n .keys) kept
 
-  next-opening : (carriedBy (opening m′ a′) ≡ cookie (current l a)) × (right (l′ .keys) (block (a′ .own)) (carriedBy (opening m′ a′)) ≡ true)
+  next-opening : (carriedBy (l′ .settings .codings) (opening m′ a′) ≡ cookie (current l a)) × (right (l′ .keys) (block (a′ .own)) (carriedBy (l′ .settings .codings) (opening m′ a′)) ≡ true)
   next-opening = (carried m′ l′ a′ (n .ends) (l′ .keys .present) free now ∙ rw (n .own, n .keys), right-cookie m′ l′ a′ (n .ends) free (present now))
 
 module _ (m : Memory) (l : Listener) (a : Asked) (e : Ends m l a) where
@@ -51,7 +51,7 @@ module _ (m : Memory) (l : Listener) (a : Asked) (e : Ends m l a) where
 
     -- without a right cookie it is plain, and where an option counts it gets a cookie
     abbrev is-right : Bool
-    is-right = right (l .keys) (block (a .own)) (carriedBy (opening m a))
+    is-right = right (l .keys) (block (a .own)) (carriedBy (l .settings .codings) (opening m a))
 
     module _ (wrong : is-right ≡ false) where
       plain-event : listener.step l (arriving m a h) .event ≡ events.Regular
@@ -60,41 +60,41 @@ module _ (m : Memory) (l : Listener) (a : Asked) (e : Ends m l a) where
           (step-new l (h .time) (a .own) (opening m a) (h .iss) (h .out-len) (opening-read-by-listener m l a e .kind) (w .new) false
           (wrong-plain (viewOf l (arriving m a h)) (block (a .own)) (opening m a) wrong) (taken .clear))
 
-      fresh : counts (carriedBy (opening m a)) ≡ true → renewed m l a h ≡ true
+      fresh : counts (carriedBy (l .settings .codings) (opening m a)) ≡ true → renewed m l a h ≡ true
       fresh some = wrong-fresh l (h .time) (a .own) (opening m a) (w .on) (w .below) wrong some
 
-      none-answered : (m′ : Memory) (t : ℕ) → Later m m′ t → client.step m′ (returning m l a h t) .event ≡ Answered 0
-      none-answered m′ t g = syn-ack-read-by-client m l a e h taken m′ t g .event ∙ ap (λ (x : Event). Answered (acceptedOf x)) plain-event
+      none-answered : (m′ : Memory) (r : Receipt) → Later m m′ r → client.step m′ (returning m l a h r) .event ≡ Answered 0
+      none-answered m′ r g = syn-ack-read-by-client m l a e h taken m′ r g .event ∙ ap (λ (x : Event). Answered (acceptedOf x)) plain-event
 
     -- a request has no right cookie
-    request-read : stored m a ≡ [] → carriedBy (opening m a) ≡ request
+    request-read : stored m a ≡ [] → carriedBy (l .settings .codings) (opening m a) ≡ request
     request-read none =
-        opening-read-by-listener m l a e .option ∙ ap (λ (t : Bool). carriedWith t (stored m a)) (w .free) ∙ ap (carriedWith false) none
+        opening-read-by-listener m l a e .option (l .settings .codings) ∙ ap (λ (t : Bool). carriedWith t (stored m a)) (w .free) ∙ ap (carriedWith false) none
 
-    cookie-request : stored m a ≡ [] → (m′ : Memory) (t : ℕ) → Later m m′ t → CookieRequest m l a h m′ t
-    cookie-request none m′ t g =
+    cookie-request : stored m a ≡ [] → (m′ : Memory) (r : Receipt) → Later m m′ r → CookieRequest m l a h m′ r
+    cookie-request none m′ r g =
         let wrong : is-right ≡ false = rw (request-read none) (never-right (l .keys) (block (a .own)) request (λ k. no-cookie k (block (a .own)) .1)) in
         record {
           none = none-sent m l a e none;
           event = plain-event wrong;
-          answered = none-answered wrong m′ t g;
-          kept = syn-ack-read-by-client m l a e h taken m′ t g .kept (fresh wrong (rw (request-read none)));
+          answered = none-answered wrong m′ r g;
+          kept = syn-ack-read-by-client m l a e h taken m′ r g .kept (fresh wrong (rw (request-read none)));
         }
 
     -- and here the cookie is right under neither key
-    cookie-replaced : Outdated m l a → (m′ : Memory) (t : ℕ) → Later m m′ t → CookieReplaced m l a h m′ t
-    cookie-replaced out m′ t g =
+    cookie-replaced : Outdated m l a → (m′ : Memory) (r : Receipt) → Later m m′ r → CookieReplaced m l a h m′ r
+    cookie-replaced out m′ r g =
         let read = carried-stored m l a e (w .free) (λ none. omega (arith, out .some, none-sent m l a e none)) in
         let wrong : is-right ≡ false = rw read (out .neither) in
         let new = fresh wrong (rw read) in
-        let synAck = syn-ack-read-by-client m l a e h taken m′ t g in
+        let synAck = syn-ack-read-by-client m l a e h taken m′ r g in
         record {
           event = plain-event wrong;
-          fresh = cookie-if m l a e h taken true new;
-          answered = none-answered wrong m′ t g;
+          fresh = cookie-if m l a e h taken (r .codings) true new;
+          answered = none-answered wrong m′ r g;
           no-ban = synAck .no-ban new;
           kept = synAck .kept new;
-          next = λ l′ a′ n. next-opening l a m′ (updated m l a h m′ t) l′ a′ n (synAck .no-ban new) (synAck .kept new);
+          next = λ l′ a′ n. next-opening l a m′ (updated m l a h m′ r) l′ a′ n (synAck .no-ban new) (synAck .kept new);
         }
 
     -- with a right cookie it is early
@@ -106,8 +106,8 @@ module _ (m : Memory) (l : Listener) (a : Asked) (e : Ends m l a) where
         (step-new l (h .time) (a .own) (opening m a) (h .iss) (h .out-len) (opening-read-by-listener m l a e .kind) (w .new) true early (taken .clear))
         ∙ ap (λ (n : ℕ). events.FastOpened (min n (l .settings .«early_room»))) (payload-length m l a e)
 
-    early-data : Issued (l .keys) (block (a .own)) (stored m a) → (m′ : Memory) (t : ℕ) → Later m m′ t → EarlyData m l a h m′ t
-    early-data i m′ t g =
+    early-data : Issued (l .keys) (block (a .own)) (stored m a) → (m′ : Memory) (r : Receipt) → Later m m′ r → EarlyData m l a h m′ r
+    early-data i m′ r g =
         let count : upToEarlyRoom m l a ≡ acceptedOf (listener.step l (arriving m a h) .event) = ap acceptedOf (sym (early-event i)) in
         record {
           event = early-event i;
@@ -115,7 +115,7 @@ module _ (m : Memory) (l : Listener) (a : Asked) (e : Ends m l a) where
               sym (starting.taken (opening m a) (listener.step l (arriving m a h) .event) (sym (opening-read-by-listener m l a e .content)) count
               (omega (arith, ap length (opening-read-by-listener m l a e .content), payload-length m l a e)))
               ∙ take-take (upToEarlyRoom m l a) (sent m a) (a .offered) (omega arith);
-          answered = syn-ack-read-by-client m l a e h taken m′ t g .event ∙ ap Answered (sym count);
+          answered = syn-ack-read-by-client m l a e h taken m′ r g .event ∙ ap Answered (sym count);
         }
 
   pub handshake : Handshake m l a

@@ -9,13 +9,16 @@ use lib.Seq.{length-take-le}
 use borrow.Author.Tests.{le-ltb, eqb-true, eq-eqb, not-false}
 use Rattle.segment.specs.Refusal.{refusal}
 use Rattle.segment.specs.Header.{fieldsOf, optionArea, payloadOf, kindOf}
-use Rattle.segment.specs.Options.{optionsOf, cookieBytes}
+use Rattle.segment.specs.Options.{optionsOf, cookieBytes, codingOf}
 use Rattle.segment.specs.Checksum.{checksumRight}
 use Rattle.segment.specs.Write.{openingFields}
 use Rattle.segment.specs.declared.refusal.Check.the-variants.{Clear}
 use Rattle.segment.specs.declared.header.Header.{Header}
 use Rattle.segment.specs.declared.header.Kind.{Kind}
 use Rattle.segment.specs.declared.header.Kind.the-variants.{Syn}
+use Rattle.segment.specs.declared.options.Coding.the-variants.{New}
+use Rattle.segment.specs.declared.options.Codings.{Codings}
+use Rattle.segment.specs.declared.options.Codings.the-variants.{NewOnly}
 use Rattle.segment.specs.declared.options.Options.{Options}
 use Rattle.segment.specs.declared.write.Opening.{Opening}
 use Rattle.lists.proofs.ByteLists.{bytes-take}
@@ -44,11 +47,17 @@ use Rattle.client.proofs.Answer.{clear-passed, mss-most}
 use Rattle.handshake.specs.Handshake.{Asked, asking, opening, sent, Arrival, arriving, Ends, carriedWith, stored, isBanned, OpeningRead, Listens, Issued, present, previous}
 
 -- the option, as it was put there
-option-read : (mss : ℕ) (banned : Bool) (c : List ℕ) (o : Options) (area : List ℕ) → o ≡ foundFor mss (not banned) c
+option-read : (mss : ℕ) (banned : Bool) (c : List ℕ) (o : Options) (area : List ℕ) → o ≡ foundFor mss (not banned) New c
     → (not banned ≡ true → cookieBytes (o .fast) area ≡ c) → found (o .fast) area ≡ carriedWith banned c
 option-read mss true c o area e h = rw e
 option-read mss false [] o area e h = rw e
 option-read mss false (x ∷ c) o area e h = rw e (ap cookie (rw e at (h refl)))
+
+-- whatever it is, it is in the new coding
+written-new : (mss : ℕ) (fast : Bool) (c : List ℕ) → codingOf (foundFor mss fast New c .fast) ≡ New
+written-new mss false c = refl
+written-new mss true [] = refl
+written-new mss true (x ∷ c) = refl
 
 -- a cookie that is not empty
 carried-cookie : (c : List ℕ) → (c ≡ [] → ⊥) → carriedWith false c ≡ cookie c
@@ -77,30 +86,33 @@ module _ (m : Memory) (l : Listener) (a : Asked) (e : Ends m l a) where
   pub sent-fits : (sent m a ≤ length (a .offered)) × (sent m a ≤ 1460)
   sent-fits = omega (arith, sent-is, sent-most (m .family) (isBanned m a) (storedFor m (a .server)) (length (a .offered)))
 
-  read : ReadBack (a .own) (a .server) (openingFields fields) (stored m a) (take count (a .offered)) (opening m a)
-  read =
+  read : (g : Codings) → ReadBack g (a .own) (a .server) (openingFields fields) (stored m a) (take count (a .offered)) (opening m a)
+  read g =
       let data′ = take count (a .offered) in
       let can = opening-ready m (a .time) (a .own) (a .server) (a .ends) (a .offered) (a .out-len) (e .stored-length) (e .done) in
       let fits = opening-fits fields (e .source) (e .dest) (e .iss) (omega (arith, mss-most (a .ends .mss) (not-false _ (passed .1 .1 .1 .1 .1 .0)))) in
-      subst (ReadBack (a .own) (a .server) (openingFields fields) (stored m a) data′) (sym (output-done m (asking a) (e .done)))
-      (opening-read (a .own) (a .server) fields (stored m a) data′ (a .out-len) can fits (e .own-bytes) (e .server-bytes)
+      subst (ReadBack g (a .own) (a .server) (openingFields fields) (stored m a) data′) (sym (output-done m (asking a) (e .done)))
+      (opening-read g (a .own) (a .server) fields (stored m a) data′ (a .out-len) can fits (e .own-bytes) (e .server-bytes)
       (bytes-take (cookieLength (storedFor m (a .server))) (storedFor m (a .server) .cookie) (e .stored-bytes)) (bytes-take count (a .offered) (e .offered-bytes)))
+
+  pub new-coding : (g : Codings) → codingOf (optionsOf g (opening m a) .fast) ≡ New
+  new-coding g = ap (λ (o : Options). codingOf (o .fast)) (read g .options) ∙ written-new (a .ends .mss) (not (isBanned m a)) (stored m a)
 
   pub opening-read-by-listener : OpeningRead m a
   opening-read-by-listener =
-      let shaped = well-shaped (opening m a) _ (read .shape) in
+      let shaped = well-shaped (opening m a) _ (read NewOnly .shape) in
       let h = sym (shaped .1) in
       record {
         formed = shaped .0;
-        checksum = read .right;
+        checksum = read NewOnly .right;
         source = ap (λ (x : Header). x .source) h;
         dest = ap (λ (x : Header). x .dest) h;
         seq = ap (λ (x : Header). x .seq) h;
         kind = ap (λ (x : Header). kindOf (x .flags)) h ∙ opening-kind;
-        option =
-            carried-found (opening m a)
-            ∙ option-read (a .ends .mss) (isBanned m a) (stored m a) (optionsOf (opening m a)) (optionArea (opening m a)) (read .options) (read .bytes);
-        content = read .content ∙ ap (λ (n : ℕ). take n (a .offered)) (sym sent-is);
+        option = λ g.
+            carried-found g (opening m a)
+            ∙ option-read (a .ends .mss) (isBanned m a) (stored m a) (optionsOf g (opening m a)) (optionArea (opening m a)) (read g .options) (read g .bytes);
+        content = read NewOnly .content ∙ ap (λ (n : ℕ). take n (a .offered)) (sym sent-is);
       }
 
   pub payload-length : length (payloadOf (opening m a)) ≡ sent m a
@@ -134,14 +146,14 @@ module _ (m : Memory) (l : Listener) (a : Asked) (e : Ends m l a) where
       sent-is ∙ rw (eq-eqb _ _ z, or-true (isBanned m a))
 
   -- what it finds is the cookie that was stored, if there was one
-  pub carried-stored : isBanned m a ≡ false → (stored m a ≡ [] → ⊥) → carriedBy (opening m a) ≡ cookie (stored m a)
-  carried-stored free some = opening-read-by-listener .option ∙ ap (λ (t : Bool). carriedWith t (stored m a)) free ∙ carried-cookie (stored m a) some
+  pub carried-stored : isBanned m a ≡ false → (stored m a ≡ [] → ⊥) → carriedBy (l .settings .codings) (opening m a) ≡ cookie (stored m a)
+  carried-stored free some = opening-read-by-listener .option (l .settings .codings) ∙ ap (λ (t : Bool). carriedWith t (stored m a)) free ∙ carried-cookie (stored m a) some
 
-  pub carried : (w : List ℕ) → isBanned m a ≡ false → stored m a ≡ cookieUnder w (block (a .own)) → carriedBy (opening m a) ≡ cookie (cookieUnder w (block (a .own)))
+  pub carried : (w : List ℕ) → isBanned m a ≡ false → stored m a ≡ cookieUnder w (block (a .own)) → carriedBy (l .settings .codings) (opening m a) ≡ cookie (cookieUnder w (block (a .own)))
   carried w free q =
       carried-stored free (λ z. omega (arith, cookie-eight w (block (a .own)), ap length q, ap length z)) ∙ ap (λ (c : List ℕ). cookie c) q
 
-  pub right-cookie : isBanned m a ≡ false → Issued (l .keys) (block (a .own)) (stored m a) → right (l .keys) (block (a .own)) (carriedBy (opening m a)) ≡ true
+  pub right-cookie : isBanned m a ≡ false → Issued (l .keys) (block (a .own)) (stored m a) → right (l .keys) (block (a .own)) (carriedBy (l .settings .codings) (opening m a)) ≡ true
   right-cookie free (present q) =
       rw (carried (l .keys .present) free q) (right-now (l .keys) (block (a .own)) _ (issued-right (l .keys .present) (block (a .own))))
   right-cookie free (previous r q) =

@@ -1,5 +1,6 @@
 -- The two ends fit, in the first two segments of a handshake: what the client writes is read by the listener as it was meant, and the listener's SYN-ACK by the client;
--- and, after a SYN-ACK that replaced a cookie, in the client's next opening (02, Item 9).
+-- and, after a SYN-ACK that replaced a cookie, in the client's next opening (02, Item 9). It holds whatever codings either end counts (02, Item 4): the client writes the
+-- new one, which each end always counts.
 -- Assumes nothing.
 use Prim.Native.Nat.{ℕ, _^_, _≤_, _<_, min}
 use mathlib.Core.Path.{_≡_}
@@ -15,6 +16,7 @@ use Rattle.segment.specs.Options.{optionsOf}
 use Rattle.segment.specs.declared.refusal.Check.the-variants.{Clear}
 use Rattle.segment.specs.declared.header.Kind.the-variants.{Syn}
 use Rattle.segment.specs.declared.options.Mss.the-variants.{Given}
+use Rattle.segment.specs.declared.options.Codings.{Codings}
 use Rattle.endpoint.specs.Address.{block}
 use Rattle.endpoint.specs.Checks.{isUntimely}
 use Rattle.protocol.specs.Cookie.{Carried, nothing, request, cookie, cookieUnder, carriedBy, right}
@@ -78,12 +80,17 @@ reply m l a h = listener.outputOf l (arriving m a h)
 abbrev pub accepted : Memory → Listener → Asked → Arrival → ℕ
 accepted m l a h = acceptedOf (listener.step l (arriving m a h) .event)
 
+-- what goes with a SYN-ACK at the client: the time, and the codings of the Fast Open option that count
+pub record Receipt : Type 0 where
+  pub time : ℕ
+  pub codings : Codings
+
 -- the SYN-ACK comes to the client, with the attempt as the program kept it
 abbrev pub attempted : Memory → Asked → Attempt
 attempted m a = record { source = a .ends .source; dest = a .ends .dest; iss = a .ends .iss; sent = sent m a }
 
-abbrev pub returning : Memory → Listener → Asked → Arrival → ℕ → client-calls.Call
-returning m l a h t = answer t (a .own) (a .server) (attempted m a) (reply m l a h)
+abbrev pub returning : Memory → Listener → Asked → Arrival → Receipt → client-calls.Call
+returning m l a h r = answer (r .time) (a .own) (a .server) (attempted m a) (reply m l a h) (r .codings)
 
 -- What is asked of both ends
 
@@ -120,7 +127,7 @@ stored m a = cookieOf (storedFor m (a .server))
 abbrev pub isBanned : Memory → Asked → Bool
 isBanned m a = bannedFor m (a .time) (a .server) (a .ends)
 
--- it is an opening between the two, with the client's number, option and data
+-- it is an opening between the two, with the client's number, option and data, whatever codings the listener counts
 pub record OpeningRead (m : Memory) (a : Asked) : Type 0 where
   pub formed : malformed (opening m a) ≡ false
   pub checksum : checksumRight (a .own) (a .server) (opening m a) ≡ true
@@ -128,7 +135,7 @@ pub record OpeningRead (m : Memory) (a : Asked) : Type 0 where
   pub dest : fieldsOf (opening m a) .dest ≡ a .ends .dest
   pub seq : fieldsOf (opening m a) .seq ≡ a .ends .iss
   pub kind : kindOf (fieldsOf (opening m a) .flags) ≡ Syn
-  pub option : carriedBy (opening m a) ≡ carriedWith (isBanned m a) (stored m a)
+  pub option : (g : Codings) → carriedBy g (opening m a) ≡ carriedWith (isBanned m a) (stored m a)
   pub content : payloadOf (opening m a) ≡ take (sent m a) (a .offered)
 
 -- a listener that was started, a time that it takes, and an output for the longest SYN-ACK
@@ -151,10 +158,10 @@ pub record Taken (m : Memory) (l : Listener) (a : Asked) (h : Arrival) : Type 0 
   pub iss : h .iss < 2 ^ 32
 
 -- the client's memory when the SYN-ACK comes, whatever came between: started, of the same family, and at a time that it takes
-pub record Later (m m′ : Memory) (t : ℕ) : Type 0 where
+pub record Later (m m′ : Memory) (r : Receipt) : Type 0 where
   pub started : m′ .started ≡ true
   pub family : m′ .family ≡ m .family
-  pub timely : isUntimely (m′ .clock) t ≡ false
+  pub timely : isUntimely (m′ .clock) (r .time) ≡ false
 
 -- the SYN-ACK has a fresh cookie
 abbrev pub renewed : Memory → Listener → Asked → Arrival → Bool
@@ -165,19 +172,19 @@ abbrev pub current : Listener → Asked → List ℕ
 current l a = cookieUnder (l .keys .present) (block (a .own))
 
 -- the client's memory when it has taken the SYN-ACK
-abbrev pub updated : Memory → Listener → Asked → Arrival → Memory → ℕ → Memory
-updated m l a h m′ t = client.step m′ (returning m l a h t) .memory
+abbrev pub updated : Memory → Listener → Asked → Arrival → Memory → Receipt → Memory
+updated m l a h m′ r = client.step m′ (returning m l a h r) .memory
 
 -- the client takes it, with the count that the listener accepted, its MSS and, if there is one, its fresh cookie, and both are stored then. With a fresh cookie it
 -- sets no ban; without one it sets one where none of the data that it sent was accepted.
-pub record SynAckRead (m : Memory) (l : Listener) (a : Asked) (h : Arrival) (m′ : Memory) (t : ℕ) : Type 0 where
-  pub event : client.step m′ (returning m l a h t) .event ≡ Answered (accepted m l a h)
-  pub mss : optionsOf (reply m l a h) .mss ≡ Given (l .settings .mss)
-  pub cookie : cookieIn (reply m l a h) ≡ cond (renewed m l a h) (current l a) []
-  pub kept : renewed m l a h ≡ true → stored (updated m l a h m′ t) a ≡ current l a
-  pub no-ban : renewed m l a h ≡ true → updated m l a h m′ t .bans ≡ m′ .bans
-  pub ban : renewed m l a h ≡ false → 0 < sent m a → accepted m l a h ≡ 0 → updated m l a h m′ t .bans ≡ addBan t (block (a .server)) (a .ends .dest) (m′ .bans)
-  pub size : storedFor (updated m l a h m′ t) (a .server) .mss ≡ Given (l .settings .mss)
+pub record SynAckRead (m : Memory) (l : Listener) (a : Asked) (h : Arrival) (m′ : Memory) (r : Receipt) : Type 0 where
+  pub event : client.step m′ (returning m l a h r) .event ≡ Answered (accepted m l a h)
+  pub mss : optionsOf (r .codings) (reply m l a h) .mss ≡ Given (l .settings .mss)
+  pub cookie : cookieIn (r .codings) (reply m l a h) ≡ cond (renewed m l a h) (current l a) []
+  pub kept : renewed m l a h ≡ true → stored (updated m l a h m′ r) a ≡ current l a
+  pub no-ban : renewed m l a h ≡ true → updated m l a h m′ r .bans ≡ m′ .bans
+  pub ban : renewed m l a h ≡ false → 0 < sent m a → accepted m l a h ≡ 0 → updated m l a h m′ r .bans ≡ addBan (r .time) (block (a .server)) (a .ends .dest) (m′ .bans)
+  pub size : storedFor (updated m l a h m′ r) (a .server) .mss ≡ Given (l .settings .mss)
 
 -- Three kinds of opening: a request gets a cookie, with a right cookie the data is handed over at once, and one that is right under neither key is
 -- replaced.
@@ -193,21 +200,21 @@ pub record Admits (m : Memory) (l : Listener) (a : Asked) (h : Arrival) : Type 0
   pub free : isBanned m a ≡ false
 
 -- no data goes with it, and the client has the cookie then
-pub record CookieRequest (m : Memory) (l : Listener) (a : Asked) (h : Arrival) (m′ : Memory) (t : ℕ) : Type 0 where
+pub record CookieRequest (m : Memory) (l : Listener) (a : Asked) (h : Arrival) (m′ : Memory) (r : Receipt) : Type 0 where
   pub none : sent m a ≡ 0
   pub event : listener.step l (arriving m a h) .event ≡ events.Regular
-  pub answered : client.step m′ (returning m l a h t) .event ≡ Answered 0
-  pub kept : stored (updated m l a h m′ t) a ≡ current l a
+  pub answered : client.step m′ (returning m l a h r) .event ≡ Answered 0
+  pub kept : stored (updated m l a h m′ r) a ≡ current l a
 
 -- the bytes sent, up to the early room
 abbrev pub upToEarlyRoom : Memory → Listener → Asked → ℕ
 upToEarlyRoom m l a = min (sent m a) (l .settings .«early_room»)
 
 -- the listener hands over the data at once, and the client learns how much of it
-pub record EarlyData (m : Memory) (l : Listener) (a : Asked) (h : Arrival) (m′ : Memory) (t : ℕ) : Type 0 where
+pub record EarlyData (m : Memory) (l : Listener) (a : Asked) (h : Arrival) (m′ : Memory) (r : Receipt) : Type 0 where
   pub event : listener.step l (arriving m a h) .event ≡ events.FastOpened (upToEarlyRoom m l a)
   pub part : acceptedPart (opening m a) (listener.step l (arriving m a h) .event) ≡ take (upToEarlyRoom m l a) (a .offered)
-  pub answered : client.step m′ (returning m l a h t) .event ≡ Answered (upToEarlyRoom m l a)
+  pub answered : client.step m′ (returning m l a h r) .event ≡ Answered (upToEarlyRoom m l a)
 
 -- the client sends data, with a cookie that is right under neither key, as after two key changes
 pub record Outdated (m : Memory) (l : Listener) (a : Asked) : Type 0 where
@@ -225,14 +232,14 @@ pub record NextOpening (l : Listener) (a : Asked) (m′ m″ : Memory) (l′ : L
 
 -- The opening is plain, and its SYN-ACK has the fresh cookie. None of the data is acknowledged, and yet the client sets no ban; it stores the fresh cookie.
 -- Its next opening carries that cookie, which is right.
-pub record CookieReplaced (m : Memory) (l : Listener) (a : Asked) (h : Arrival) (m′ : Memory) (t : ℕ) : Type 0 where
+pub record CookieReplaced (m : Memory) (l : Listener) (a : Asked) (h : Arrival) (m′ : Memory) (r : Receipt) : Type 0 where
   pub event : listener.step l (arriving m a h) .event ≡ events.Regular
-  pub fresh : cookieIn (reply m l a h) ≡ current l a
-  pub answered : client.step m′ (returning m l a h t) .event ≡ Answered 0
-  pub no-ban : updated m l a h m′ t .bans ≡ m′ .bans
-  pub kept : stored (updated m l a h m′ t) a ≡ current l a
-  pub next : (l′ : Listener) (a′ : Asked) → NextOpening l a m′ (updated m l a h m′ t) l′ a′
-      → (carriedBy (opening (updated m l a h m′ t) a′) ≡ cookie (current l a)) × (right (l′ .keys) (block (a′ .own)) (carriedBy (opening (updated m l a h m′ t) a′)) ≡ true)
+  pub fresh : cookieIn (r .codings) (reply m l a h) ≡ current l a
+  pub answered : client.step m′ (returning m l a h r) .event ≡ Answered 0
+  pub no-ban : updated m l a h m′ r .bans ≡ m′ .bans
+  pub kept : stored (updated m l a h m′ r) a ≡ current l a
+  pub next : (l′ : Listener) (a′ : Asked) → NextOpening l a m′ (updated m l a h m′ r) l′ a′
+      → (carriedBy (l′ .settings .codings) (opening (updated m l a h m′ r) a′) ≡ cookie (current l a)) × (right (l′ .keys) (block (a′ .own)) (carriedBy (l′ .settings .codings) (opening (updated m l a h m′ r) a′)) ≡ true)
 
 -- All of it
 
@@ -242,12 +249,12 @@ pub record Handshake (m : Memory) (l : Listener) (a : Asked) : Type 0 where
   -- and has no refusal for it but those of an opening, 7 and 8
   pub checked-by-kind : (h : Arrival) → Listens l h → listener-checks.callCheck l (arriving m a h) ≡ refusal (kindChecks (viewOf l (arriving m a h)) (fieldsOf (opening m a)) Syn)
   -- its cookie for the client's address is right, under the present key and under the previous one
-  pub right-cookie : isBanned m a ≡ false → Issued (l .keys) (block (a .own)) (stored m a) → right (l .keys) (block (a .own)) (carriedBy (opening m a)) ≡ true
+  pub right-cookie : isBanned m a ≡ false → Issued (l .keys) (block (a .own)) (stored m a) → right (l .keys) (block (a .own)) (carriedBy (l .settings .codings) (opening m a)) ≡ true
   -- the client reads the SYN-ACK as the listener meant it
-  pub answered : (h : Arrival) → Taken m l a h → (m′ : Memory) (t : ℕ) → Later m m′ t → SynAckRead m l a h m′ t
+  pub answered : (h : Arrival) → Taken m l a h → (m′ : Memory) (r : Receipt) → Later m m′ r → SynAckRead m l a h m′ r
   -- without a cookie, and with a right one
-  pub requested : (h : Arrival) → Admits m l a h → stored m a ≡ [] → (m′ : Memory) (t : ℕ) → Later m m′ t → CookieRequest m l a h m′ t
-  pub early : (h : Arrival) → Admits m l a h → Issued (l .keys) (block (a .own)) (stored m a) → (m′ : Memory) (t : ℕ) → Later m m′ t
-      → EarlyData m l a h m′ t
+  pub requested : (h : Arrival) → Admits m l a h → stored m a ≡ [] → (m′ : Memory) (r : Receipt) → Later m m′ r → CookieRequest m l a h m′ r
+  pub early : (h : Arrival) → Admits m l a h → Issued (l .keys) (block (a .own)) (stored m a) → (m′ : Memory) (r : Receipt) → Later m m′ r
+      → EarlyData m l a h m′ r
   -- and with one that is right under neither key
-  pub replaced : (h : Arrival) → Admits m l a h → Outdated m l a → (m′ : Memory) (t : ℕ) → Later m m′ t → CookieReplaced m l a h m′ t
+  pub replaced : (h : Arrival) → Admits m l a h → Outdated m l a → (m′ : Memory) (r : Receipt) → Later m m′ r → CookieReplaced m l a h m′ r

@@ -9,11 +9,14 @@ use borrow.Author.Tests.{ltb-true, not-false}
 use Rattle.lists.proofs.Elements.{set-same}
 use Rattle.segment.specs.Refusal.{refusal}
 use Rattle.segment.specs.Header.{malformed, fieldsOf, kindOf, optionArea, payloadOf}
+use Rattle.segment.specs.Options.{codingOf}
 use Rattle.segment.specs.Write.{synAckBytes}
 use Rattle.segment.specs.declared.refusal.Refusal.{Refusal}
 use Rattle.segment.specs.declared.refusal.Refusal.the-variants.{Flags}
 use Rattle.segment.specs.declared.refusal.Check.{Check}
 use Rattle.segment.specs.declared.refusal.Check.the-variants.{Clear, Refused}
+use Rattle.segment.specs.declared.options.Coding.{Coding}
+use Rattle.segment.specs.declared.options.Coding.the-variants.{New}
 use Rattle.segment.specs.declared.options.FastOpenOption.{FastOpenOption}
 use Rattle.segment.specs.declared.header.Header.{Header}
 use Rattle.segment.specs.declared.header.Kind.{Kind}
@@ -27,7 +30,7 @@ use Rattle.protocol.specs.Table.{isFree, isWaiting, freeSlot, newSlot, scanOf}
 use Rattle.protocol.specs.Call.{Call, segment, sender}
 use Rattle.protocol.specs.View.{ownAddress, slotAt, scanFor, view}
 use Rattle.protocol.specs.Refusals.{kindChecks, wireChecks}
-use Rattle.protocol.specs.Step.{cookiesEnabled, isEarly, isFresh, accepts, newEvent, newStatus, segmentEvent, heldUntil, synAckFrom, writesSynAck, segmentAfter, moved, put, step, outputOf}
+use Rattle.protocol.specs.Step.{cookiesEnabled, isEarly, isFresh, accepts, newEvent, newStatus, segmentEvent, heldUntil, codingFor, synAckFrom, writesSynAck, segmentAfter, moved, put, step, outputOf}
 use Rattle.protocol.specs.declared.state.View.{View}
 use Rattle.protocol.specs.declared.state.Listener.{Listener}
 use Rattle.protocol.specs.declared.outcome.Event.{Event}
@@ -42,7 +45,7 @@ use Rattle.decisions.specs.Parts.{hasKind, isOpening, openingChecks, openingChe
 use Rattle.decisions.specs.declared.action.Opened.{Opened}
 use Rattle.decisions.specs.declared.checks.OpeningCheck.{OpeningCheck}
 use Rattle.decisions.specs.declared.checks.OpeningCheck.the-variants as openings
-use Rattle.decisions.proofs.Parts.{no-kind, opening-kind, was-refused, was-repeat, was-new, opening-checks, enabled-with, opens-plain, opens-by-option, new-slot, new-fresh, new-writes, later-checks, later-event, later-slot}
+use Rattle.decisions.proofs.Parts.{no-kind, opening-kind, was-refused, was-repeat, was-new, opening-checks, enabled-with, opens-plain, opens-by-option, opens-in-coding, new-slot, new-fresh, new-writes, later-checks, later-event, later-slot}
 use Rattle.decisions.proofs.Opened.{Opens}
 
 -- a new connection, early or plain, takes the lowest free place
@@ -84,8 +87,8 @@ module _ (l : Listener) (t : ℕ) (src seg : List ℕ) (iss out-len : ℕ) (firs
     checks-are : found-checks ≡ refusal (kindChecks v (fieldsOf seg) k)
     checks-are = rw (kind-is, slot-is, scan-is, eh) (ap refusal (opening-checks v (fieldsOf seg)))
 
-    abbrev synAck : Slot → Bool → List ℕ → List ℕ
-    synAck x fresh cookie = synAckBytes (ownAddress (l .local)) src (synAckFrom (l .local) (l .settings .mss) x fresh) cookie out-len
+    abbrev synAck : Slot → Bool → Coding → List ℕ → List ℕ
+    synAck x fresh coding cookie = synAckBytes (ownAddress (l .local)) src (synAckFrom (l .local) (l .settings .mss) x fresh coding) cookie out-len
 
     module _ {c : OpeningCheck} (ec : c ≡ openingCheck found-checks (isFree (s .status))) where
       pub opening-refused : {r : Refusal} → c ≡ openings.Refused r → (step l this ≡ refusedWith l r) × (outputOf l this ≡ [])
@@ -93,12 +96,12 @@ module _ (l : Listener) (t : ℕ) (src seg : List ℕ) (iss out-len : ℕ) (firs
 
       -- a repeat changes nothing but the clock
       pub repeated : c ≡ openings.Repeat → (cookie : List ℕ)
-          → (record { listener = moved l t (l .slots); event = events.Retransmission; written = length (synAck s false cookie) } ≡ step l this) × (outputOf l this ≡ synAck s false cookie)
+          → (record { listener = moved l t (l .slots); event = events.Retransmission; written = length (synAck s false New cookie) } ≡ step l this) × (outputOf l this ≡ synAck s false New cookie)
       repeated q cookie =
           let was = was-repeat found-checks (isFree (s .status)) (sym ec ∙ q) in
           let known = rw slot-is at (was .1) in
           segment-writes l t src seg iss out-len first (sym checks-are ∙ was .0) {e = events.Retransmission} {s = s} (rw (kind-is, known)) (rw (kind-is, known) slot-is)
-          (rw (slot-is, set-same (l .slots) (scanFor l t (sender src seg) .place) freeSlot)) {fresh = false} {cookie = cookie} (rw (kind-is, known)) (λ y. absurd (false≢true y)) refl
+          (rw (slot-is, set-same (l .slots) (scanFor l t (sender src seg) .place) freeSlot)) {fresh = false} {coding = New} {cookie = cookie} (rw (kind-is, known)) (λ y. absurd (false≢true y)) (λ y. absurd (false≢true y)) refl
 
       module _ (q : c ≡ openings.New) where
         was : (found-checks ≡ Clear) × (isFree (s .status) ≡ true)
@@ -113,7 +116,7 @@ module _ (l : Listener) (t : ℕ) (src seg : List ℕ) (iss out-len : ℕ) (firs
             ltb-true (scan .free) 64 (rw (was .1) at some)
 
         module _ {enabled : Bool} {area : List ℕ} {fast : FastOpenOption} (ee : enabled ≡ enabledWith (l .settings) (scan .pending))
-            (ea : area ≡ take (4 * h .offset - 20) (drop 20 seg)) (eo : fast ≡ countedIn enabled area) where
+            (ea : area ≡ take (4 * h .offset - 20) (drop 20 seg)) (eo : fast ≡ countedIn enabled (l .settings .codings) area) where
           formed : malformed seg ≡ false
           formed = wired-formed (l .local) (isUntimely (l .clock) t) src seg out-len first
 
@@ -123,36 +126,38 @@ module _ (l : Listener) (t : ℕ) (src seg : List ℕ) (iss out-len : ℕ) (firs
           area-as : area ≡ optionArea seg
           area-as = rw (eh, offset-is seg) at ea ∙ area-is seg formed
 
-          fast-as : fast ≡ countedIn (cookiesEnabled v) (optionArea seg)
+          fast-as : fast ≡ countedIn (cookiesEnabled v) (l .settings .codings) (optionArea seg)
           fast-as = rw (enabled-is, area-as) at eo
 
           -- a new connection, early or not, with its slot and whether a fresh cookie goes with its SYN-ACK
-          written-new : {early fresh : Bool} {n : ℕ} {e : Event} {new : Slot} {cookie : List ℕ} → early ≡ isEarly v (block src) seg → fresh ≡ isFresh v (block src) seg → n ≡ accepts (l .settings) seg
-              → e ≡ newEvent early n → new ≡ newSlot b (h .source) (h .seq) iss (newStatus early n) → (fresh ≡ true → cookie ≡ cookieUnder (l .keys .present) b)
-              → (record { listener = put l t (scan .free) new; event = e; written = length (synAck new fresh cookie) } ≡ step l this) × (outputOf l this ≡ synAck new fresh cookie)
-          written-new {early} {fresh} {n} {e} {new} {cookie} early-is fresh-is n-is e-is new-is cookie-is =
+          written-new : {early fresh : Bool} {n : ℕ} {e : Event} {new : Slot} {coding : Coding} {cookie : List ℕ} → early ≡ isEarly v (block src) seg → fresh ≡ isFresh v (block src) seg → n ≡ accepts (l .settings) seg
+              → e ≡ newEvent early n → new ≡ newSlot b (h .source) (h .seq) iss (newStatus early n) → (fresh ≡ true → coding ≡ codingFor v seg)
+              → (fresh ≡ true → cookie ≡ cookieUnder (l .keys .present) b)
+              → (record { listener = put l t (scan .free) new; event = e; written = length (synAck new fresh coding cookie) } ≡ step l this) × (outputOf l this ≡ synAck new fresh coding cookie)
+          written-new {early} {fresh} {n} {e} {new} {coding} {cookie} early-is fresh-is n-is e-is new-is coding-is cookie-is =
               let event-is : e ≡ segmentEvent v (block src) seg k = e-is ∙ rw (kind-is, unknown, early-is, n-is) in
               segment-writes l t src seg iss out-len first (sym checks-are ∙ was .0) {e = e} {s = new} event-is
               (rw (sym event-is, e-is) (new-is ∙ rw (eb, eh) (new-slot v (heldUntil v t) (block src) (fieldsOf seg) iss early n)))
-              (rw (e-is, scan-is) (new-place l t (scanFor l t (sender src seg)) new early n)) {fresh = fresh} {cookie = cookie}
+              (rw (e-is, scan-is) (new-place l t (scanFor l t (sender src seg)) new early n)) {fresh = fresh} {coding = coding} {cookie = cookie}
               (fresh-is ∙ rw (sym event-is, e-is) (new-fresh v (block src) seg early n))
+              coding-is
               (rw eb at cookie-is)
               (rw e-is (new-writes early n))
 
           pub opened-plain : isCounted fast ≡ false → {new : Slot} → new ≡ newSlot b (h .source) (h .seq) iss SynReceived → (cookie : List ℕ)
-              → (record { listener = put l t (scan .free) new; event = events.Regular; written = length (synAck new false cookie) } ≡ step l this) × (outputOf l this ≡ synAck new false cookie)
+              → (record { listener = put l t (scan .free) new; event = events.Regular; written = length (synAck new false New cookie) } ≡ step l this) × (outputOf l this ≡ synAck new false New cookie)
           opened-plain none e cookie =
               let p = opens-plain v (block src) seg kind-is fast-as none in
-              written-new {early = false} {fresh = false} (sym (p .0)) (sym (p .1)) refl refl e (λ y. absurd (false≢true y))
+              written-new {early = false} {fresh = false} (sym (p .0)) (sym (p .1)) refl refl e (λ y. absurd (false≢true y)) (λ y. absurd (false≢true y))
 
-          pub opened-by-option : isCounted fast ≡ true → {payload : List ℕ} → payload ≡ drop (4 * h .offset) seg → (r : Opened)
+          pub opened-by-option : isCounted fast ≡ true → {payload : List ℕ} → payload ≡ drop (4 * h .offset) seg → {coding : Coding} → coding ≡ codingOf fast → (r : Opened)
               → Opens (l .keys) b h iss (found fast area) (min (length payload) (l .settings .«early_room»)) r
-              → (record { listener = put l t (scan .free) (r .slot); event = r .event; written = length (synAck (r .slot) (r .fresh) (r .cookie)) } ≡ step l this)
-              × (outputOf l this ≡ synAck (r .slot) (r .fresh) (r .cookie))
-          opened-by-option some {payload} ep r opens =
+              → (record { listener = put l t (scan .free) (r .slot); event = r .event; written = length (synAck (r .slot) (r .fresh) coding (r .cookie)) } ≡ step l this)
+              × (outputOf l this ≡ synAck (r .slot) (r .fresh) coding (r .cookie))
+          opened-by-option some {payload} ep coding-is r opens =
               let p = opens-by-option v (block src) seg kind-is fast-as some in
               let payload-as : payload ≡ payloadOf seg = rw (eh, offset-is seg) at ep ∙ payload-is seg formed in
-              written-new {early = right (l .keys) b (found fast area)} {n = min (length payload) (l .settings .«early_room»)} (rw (area-as, eb) (p .0)) (opens .1 .1 .0 ∙ rw (area-as, eb) (p .1)) (rw payload-as) (opens .0) (opens .1 .0) (opens .1 .1 .1)
+              written-new {early = right (l .keys) b (found fast area)} {n = min (length payload) (l .settings .«early_room»)} (rw (area-as, eb) (p .0)) (opens .1 .1 .0 ∙ rw (area-as, eb) (p .1)) (rw payload-as) (opens .0) (opens .1 .0) (λ _. coding-is ∙ opens-in-coding v (block src) seg kind-is fast-as some) (opens .1 .1 .1)
 
   -- A later segment, with the place of its name and the slot there
   module _ {x : Kind} (ek : x ≡ kindOf (h .flags)) (later : isOpening x ≡ false) {i : ℕ} {s : Slot} (ei : i ≡ scanOf t b (h .source) (l .slots) .place) (es : s ≡ slotAt l i) where

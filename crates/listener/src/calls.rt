@@ -43,6 +43,9 @@ use protocol::state::StoredSettings;
 use segment::header::area_within;
 use segment::header::kind_of;
 use segment::header::payload_after;
+use segment::options::Coding;
+use segment::options::Codings;
+use segment::options::coding_of;
 use segment::refusal::Check;
 use segment::refusal::Refusal;
 use table::scan::count_if;
@@ -101,6 +104,7 @@ fn blank_listener(local: LocalEndpoint, keys: Keys) -> Listener
             early_room: 0,
             hold: 0,
             mss: FRESH_MSS,
+            codings: Codings::NewOnly,
         },
         clock: 0,
     }
@@ -223,6 +227,7 @@ pub fn segment(l: Listener, time: u64, src: &[u8], seg: &[u8], iss: u32, out: &m
                             src,
                             slot,
                             false,
+                            Coding::New,
                             cookie,
                         );
                         next.clock = time;
@@ -235,7 +240,12 @@ pub fn segment(l: Listener, time: u64, src: &[u8], seg: &[u8], iss: u32, out: &m
                     OpeningCheck::New => {
                         let i = scan.free;
                         let area = area_within(seg, h.offset);
-                        let fast = counted_option(cookies_enabled(settings, scan.pending), area);
+                        let codings = settings.codings;
+                        let fast = counted_option(
+                            cookies_enabled(settings, scan.pending),
+                            codings,
+                            area,
+                        );
                         // Without an option no key is read.
                         if !counts(fast) {
                             let new = open_plain(b, h, iss);
@@ -247,6 +257,7 @@ pub fn segment(l: Listener, time: u64, src: &[u8], seg: &[u8], iss: u32, out: &m
                                 src,
                                 new,
                                 false,
+                                Coding::New,
                                 cookie,
                             );
                             next.slots[i] = new;
@@ -270,6 +281,7 @@ pub fn segment(l: Listener, time: u64, src: &[u8], seg: &[u8], iss: u32, out: &m
                             src,
                             new,
                             opened.fresh,
+                            coding_of(fast),
                             cookie,
                         );
                         next.slots[i] = new;
@@ -324,12 +336,14 @@ pub fn set_settings(mut l: Listener, time: u64, g: Settings) -> Outcome
             if !is_in_range(g) {
                 return refused(l, Refusal::Range);
             }
+            let codings = g.codings;
             let kept = StoredSettings {
                 on: g.on,
                 limit: g.limit,
                 early_room: g.early_room,
                 hold: g.hold,
                 mss: g.mss as u16,
+                codings,
             };
             l.settings = kept;
             l.clock = time;
@@ -443,7 +457,16 @@ pub fn resend(l: Listener, time: u64, addr: &[u8], port: u16, out: &mut [u8]) ->
             }
             let settings = next.settings;
             let cookie = [0u8; 8];
-            let written = write_from(out, local, settings.mss, addr, slot, false, cookie);
+            let written = write_from(
+                out,
+                local,
+                settings.mss,
+                addr,
+                slot,
+                false,
+                Coding::New,
+                cookie,
+            );
             next.clock = time;
             return Outcome {
                 listener: next,

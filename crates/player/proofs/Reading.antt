@@ -5,10 +5,10 @@ use mathlib.Core.Bool.{Bool}
 use mathlib.Core.List.{List}
 use mathlib.Core.Option.{Option, none, some}
 use lib.ListN.{length}
-use Rattle.text.specs.Argument.{_⊛_, timeAt, portAt, numberAt, outAt, countAt, bytesOver}
+use Rattle.text.specs.Argument.{_⊛_, timeAt, portAt, numberAt, outAt, onAt, countAt, bytesOver}
 use Rattle.text.proofs.Arguments.{front, lendable, bytes-front, out-lendable}
 use Rattle.player.specs.declared.read.Reading.{Reading}
-use Rattle.player.specs.Request.{switchAt, startIn, settingsIn, keyIn, segmentIn, releaseIn, resendIn, starting, setting, keying, taking, releasing, resending}
+use Rattle.player.specs.Request.{startIn, settingsIn, keyIn, segmentIn, releaseIn, resendIn, starting, setting, keying, taking, releasing, resending}
 use Rattle.player.specs.Order.{startOrder, settingsOrder, keyOrder, segmentOrder, releaseOrder, resendOrder, readingOf, requestRead}
 use Rattle.player.specs.Order.{startReading, settingsReading, keyReading, segmentReading, releaseReading, resendReading}
 
@@ -21,15 +21,16 @@ module _ (a b : List ℕ) where
   start-of (some n) (some p) none = refl
   start-of (some n) (some p) (some m) = refl
 
-  settings-of : (t : Option ℕ) (on : Option Bool) (i j k m : Option ℕ)
-      → requestRead (readingOf (some settingsOrder ⊛ t ⊛ on ⊛ i ⊛ j ⊛ k ⊛ m)) a b ≡ some setting ⊛ t ⊛ on ⊛ i ⊛ j ⊛ k ⊛ m
-  settings-of none on i j k m = refl
-  settings-of (some t) none i j k m = refl
-  settings-of (some t) (some on) none j k m = refl
-  settings-of (some t) (some on) (some i) none k m = refl
-  settings-of (some t) (some on) (some i) (some j) none m = refl
-  settings-of (some t) (some on) (some i) (some j) (some k) none = refl
-  settings-of (some t) (some on) (some i) (some j) (some k) (some m) = refl
+  settings-of : (t : Option ℕ) (on : Option Bool) (i j k m : Option ℕ) (both : Option Bool)
+      → requestRead (readingOf (some settingsOrder ⊛ t ⊛ on ⊛ i ⊛ j ⊛ k ⊛ m ⊛ both)) a b ≡ some setting ⊛ t ⊛ on ⊛ i ⊛ j ⊛ k ⊛ m ⊛ both
+  settings-of none on i j k m both = refl
+  settings-of (some t) none i j k m both = refl
+  settings-of (some t) (some on) none j k m both = refl
+  settings-of (some t) (some on) (some i) none k m both = refl
+  settings-of (some t) (some on) (some i) (some j) none m both = refl
+  settings-of (some t) (some on) (some i) (some j) (some k) none both = refl
+  settings-of (some t) (some on) (some i) (some j) (some k) (some m) none = refl
+  settings-of (some t) (some on) (some i) (some j) (some k) (some m) (some both) = refl
 
   key-of : (t n : Option ℕ) → requestRead (readingOf (some keyOrder ⊛ t ⊛ n)) a b ≡ some keying ⊛ t ⊛ front a n
   key-of none n = refl
@@ -61,8 +62,8 @@ module _ (a b : List ℕ) where
 -- ---- each line: r was read, and left these bytes in the buffers
 
 module _ (s a : List ℕ) (u : length a ≡ 4096) (a′ b′ : List ℕ) {r : Reading} where
-  pub settings-read : r ≡ settingsReading s → requestRead r a′ b′ ≡ settingsIn s
-  settings-read e = rw e (settings-of a′ b′ (timeAt 1 s) (switchAt 2 s) (numberAt 3 s) (numberAt 4 s) (numberAt 5 s) (numberAt 6 s))
+  pub settings-read : (both : Option Bool) → r ≡ settingsReading both s → requestRead r a′ b′ ≡ settingsIn both s
+  settings-read both e = rw e (settings-of a′ b′ (timeAt 1 s) (onAt 2 s) (numberAt 3 s) (numberAt 4 s) (numberAt 5 s) (numberAt 6 s) both)
 
   pub key-read : r ≡ keyReading s (length a) → a′ ≡ bytesOver 2 s a → requestRead r a′ b′ ≡ keyIn s
   key-read e p = rw (e, p) (key-of (bytesOver 2 s a) b′ (timeAt 1 s) (countAt 2 s (length a)) ∙ rw (bytes-front 2 s a u))

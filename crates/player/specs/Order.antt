@@ -5,9 +5,9 @@ use mathlib.Core.Bool.{Bool}
 use mathlib.Core.List.{List}
 use mathlib.Core.Option.{Option, none, some}
 use lib.ListN.{take}
-use Rattle.text.specs.Argument.{timeAt, portAt, numberAt, outAt, _⊛_, countAt}
+use Rattle.text.specs.Argument.{timeAt, portAt, numberAt, outAt, onAt, _⊛_, countAt}
 use Rattle.protocol.specs.Call.{settings}
-use Rattle.player.specs.Request.{Request, call, settingsOf, starting, keying, taking, releasing, resending, switchAt}
+use Rattle.player.specs.Request.{Request, call, settingsOf, starting, keying, taking, releasing, resending}
 use Rattle.player.specs.declared.read.Order.{Order}
 use Rattle.player.specs.declared.read.Order.the-variants.{Start, Settings, Key, Segment, Release, Resend}
 use Rattle.player.specs.declared.read.Reading.{Reading}
@@ -22,8 +22,8 @@ readingOf (some o) = Known o
 abbrev pub startOrder : ℕ → ℕ → ℕ → Order
 startOrder own port k = Start own port k
 
-abbrev pub settingsOrder : ℕ → Bool → ℕ → ℕ → ℕ → ℕ → Order
-settingsOrder t on limit early-room hold mss = Settings t (settingsOf on limit early-room hold mss)
+abbrev pub settingsOrder : ℕ → Bool → ℕ → ℕ → ℕ → ℕ → Bool → Order
+settingsOrder t on limit early-room hold mss both = Settings t (settingsOf on limit early-room hold mss both)
 
 abbrev pub keyOrder : ℕ → ℕ → Order
 keyOrder t k = Key t k
@@ -42,8 +42,8 @@ resendOrder t a p out = Resend t a p out
 abbrev pub startReading : List ℕ → ℕ → ℕ → Reading
 startReading s n m = readingOf (some startOrder ⊛ countAt 1 s n ⊛ portAt 2 s ⊛ countAt 3 s m)
 
-abbrev pub settingsReading : List ℕ → Reading
-settingsReading s = readingOf (some settingsOrder ⊛ timeAt 1 s ⊛ switchAt 2 s ⊛ numberAt 3 s ⊛ numberAt 4 s ⊛ numberAt 5 s ⊛ numberAt 6 s)
+abbrev pub settingsReading : Option Bool → List ℕ → Reading
+settingsReading both s = readingOf (some settingsOrder ⊛ timeAt 1 s ⊛ onAt 2 s ⊛ numberAt 3 s ⊛ numberAt 4 s ⊛ numberAt 5 s ⊛ numberAt 6 s ⊛ both)
 
 abbrev pub keyReading : List ℕ → ℕ → Reading
 keyReading s n = readingOf (some keyOrder ⊛ timeAt 1 s ⊛ countAt 2 s n)

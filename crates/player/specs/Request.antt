@@ -1,44 +1,31 @@
 -- The replay format (docs/REPLAY.md), "Lines in", of `replay`: which request a line is.
 -- Assumes nothing.
 use Prim.Native.Nat.{ℕ}
-use mathlib.Core.Bool.{Bool, true, false, cond}
+use mathlib.Core.Bool.{Bool, true, false}
 use mathlib.Core.List.{List, [], _∷_}
-use mathlib.Core.Option.{Option, none, some}
-use Rattle.lists.specs.Bytes.{sameBytes}
+use mathlib.Core.Option.{Option, some}
+use Rattle.segment.specs.Options.{codingsOf}
 use Rattle.protocol.specs.declared.state.Settings.{Settings}
 use Rattle.protocol.specs.Call.{Call, segment, settings, key, resend}
 use Rattle.protocol.specs.Refusals.{releaseOf}
-use Rattle.text.specs.Word.{wordAt}
-use Rattle.text.specs.Argument.{timeAt, portAt, numberAt, outAt, bytesAt, _⊛_, isCall, firstCase}
-use Rattle.player.specs.declared.read.Switch.{Switch}
-use Rattle.player.specs.declared.read.Switch.the-variants.{Value as On, Bad as OnBad}
+use Rattle.text.specs.Argument.{timeAt, portAt, numberAt, outAt, onAt, bothAt, bytesAt, _⊛_, isCall, firstCase}
 
 -- A start with own address, port and key, or a call on the listener.
 pub data Request : Type 0 where
   start : List ℕ → ℕ → List ℕ → Request
   call : Call → Request
 
-abbrev pub isOn : Switch → Option Bool
-isOn (On b) = some b
-isOn OnBad = none
-
--- on|off
-unfoldable pub switchIn : List ℕ → Switch
-switchIn w = cond (sameBytes w (111 ∷ 110 ∷ [])) (On true) (cond (sameBytes w (111 ∷ 102 ∷ 102 ∷ [])) (On false) OnBad)
-
-abbrev pub switchAt : ℕ → List ℕ → Option Bool
-switchAt i s = isOn (switchIn (wordAt i s))
-
 -- a request of its words, in their order
 
 abbrev pub starting : List ℕ → ℕ → List ℕ → Request
 starting own port k = start own port k
 
-abbrev pub settingsOf : Bool → ℕ → ℕ → ℕ → ℕ → Settings
-settingsOf on limit early-room hold mss = record { on = on; limit = limit; «early_room» = early-room; hold = hold; mss = mss }
+abbrev pub settingsOf : Bool → ℕ → ℕ → ℕ → ℕ → Bool → Settings
+settingsOf on limit early-room hold mss both =
+    record { on = on; limit = limit; «early_room» = early-room; hold = hold; mss = mss; codings = codingsOf both }
 
-abbrev pub setting : ℕ → Bool → ℕ → ℕ → ℕ → ℕ → Request
-setting t on limit early-room hold mss = call (settings t (settingsOf on limit early-room hold mss))
+abbrev pub setting : ℕ → Bool → ℕ → ℕ → ℕ → ℕ → Bool → Request
+setting t on limit early-room hold mss both = call (settings t (settingsOf on limit early-room hold mss both))
 
 abbrev pub keying : ℕ → List ℕ → Request
 keying t k = call (key t k)
@@ -58,9 +45,9 @@ resending t a p out = call (resend t a p out)
 abbrev pub startIn : List ℕ → Option Request
 startIn s = some starting ⊛ bytesAt 1 s ⊛ portAt 2 s ⊛ bytesAt 3 s
 
--- settings TIME on|off LIMIT ROOM HOLD MSS
-abbrev pub settingsIn : List ℕ → Option Request
-settingsIn s = some setting ⊛ timeAt 1 s ⊛ switchAt 2 s ⊛ numberAt 3 s ⊛ numberAt 4 s ⊛ numberAt 5 s ⊛ numberAt 6 s
+-- settings TIME on|off LIMIT ROOM HOLD MSS, with what new|both comes to
+abbrev pub settingsIn : Option Bool → List ℕ → Option Request
+settingsIn both s = some setting ⊛ timeAt 1 s ⊛ onAt 2 s ⊛ numberAt 3 s ⊛ numberAt 4 s ⊛ numberAt 5 s ⊛ numberAt 6 s ⊛ both
 
 -- key TIME KEY
 abbrev pub keyIn : List ℕ → Option Request
@@ -80,12 +67,13 @@ resendIn s = some resending ⊛ timeAt 1 s ⊛ bytesAt 2 s ⊛ portAt 3 s ⊛ ou
 
 -- A line is one of these by its first word, and by how many spaces it has.
 
--- `segment`, `start`, `settings`, `key`, `abandon`, `close`, `resend`
+-- `segment`, `start`, `settings` without new|both, which is then new, and with it, `key`, `abandon`, `close`, `resend`
 abbrev pub cases : List ℕ → List (Bool × Option Request)
 cases s =
     (isCall (115 ∷ 101 ∷ 103 ∷ 109 ∷ 101 ∷ 110 ∷ 116 ∷ []) 5 s, segmentIn s)
     ∷ (isCall (115 ∷ 116 ∷ 97 ∷ 114 ∷ 116 ∷ []) 3 s, startIn s)
-    ∷ (isCall (115 ∷ 101 ∷ 116 ∷ 116 ∷ 105 ∷ 110 ∷ 103 ∷ 115 ∷ []) 6 s, settingsIn s)
+    ∷ (isCall (115 ∷ 101 ∷ 116 ∷ 116 ∷ 105 ∷ 110 ∷ 103 ∷ 115 ∷ []) 6 s, settingsIn (some false) s)
+    ∷ (isCall (115 ∷ 101 ∷ 116 ∷ 116 ∷ 105 ∷ 110 ∷ 103 ∷ 115 ∷ []) 7 s, settingsIn (bothAt 7 s) s)
     ∷ (isCall (107 ∷ 101 ∷ 121 ∷ []) 2 s, keyIn s)
     ∷ (isCall (97 ∷ 98 ∷ 97 ∷ 110 ∷ 100 ∷ 111 ∷ 110 ∷ []) 3 s, releaseIn false s)
     ∷ (isCall (99 ∷ 108 ∷ 111 ∷ 115 ∷ 101 ∷ []) 3 s, releaseIn true s)

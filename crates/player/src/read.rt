@@ -1,7 +1,11 @@
 // A line's words, read: which request it is, its numbers, and the lengths of its byte strings, whose bytes go to the start of two buffers.
 use protocol::state::Settings;
+use segment::options::codings_of;
+use text::argument::Switch;
+use text::argument::both_at;
 use text::argument::bytes_at;
 use text::argument::number_at;
+use text::argument::on_at;
 use text::argument::out_at;
 use text::argument::port_at;
 use text::argument::time_at;
@@ -10,15 +14,13 @@ use text::number::Number;
 use text::number::Number16;
 use text::number::Number32;
 use text::word::is_call;
-use text::word::is_word;
-use text::word::word_at;
 ghost use mathlib.Core.Path.{_≡_};
 ghost use mathlib.Core.Option.{some};
 ghost use mathlib.Core.List.{List};
 ghost use Prim.Native.Nat.{ℕ};
 ghost use lib.ListN.{length, drop};
-ghost use Rattle.text.specs.Argument.{_⊛_, valueOf, value16, value32, countOf, bytesOver, firstCase};
-ghost use Rattle.player.specs.Request.{isOn, switchIn, cases, requestIn};
+ghost use Rattle.text.specs.Argument.{_⊛_, valueOf, value16, value32, truthOf, countOf, bytesOver, firstCase};
+ghost use Rattle.player.specs.Request.{cases, requestIn};
 ghost use Rattle.player.specs.Order.{readingOf, startOrder, settingsOrder, keyOrder, segmentOrder, releaseOrder, resendOrder};
 ghost use Rattle.player.specs.Order.{startReading, settingsReading, keyReading, segmentReading, releaseReading, resendReading, outLen, segLen, requestRead};
 
@@ -61,12 +63,6 @@ pub(crate) enum Order {
 pub(crate) enum Reading {
     Bad,
     Known(Order),
-}
-
-// on|off
-enum Switch {
-    Value(bool),
-    Bad,
 }
 
 // How many bytes of output are lent.
@@ -121,8 +117,9 @@ fn settings_order(
     early_room: Number32,
     hold: Number32,
     mss: Number32,
+    both: Switch,
 ) -> Reading
-    ensures { λ r. ⌜ r ≡ readingOf (some settingsOrder ⊛ valueOf time ⊛ isOn on ⊛ value32 limit ⊛ value32 «early_room» ⊛ value32 hold ⊛ value32 mss) ⌝ }
+    ensures { λ r. ⌜ r ≡ readingOf (some settingsOrder ⊛ valueOf time ⊛ truthOf on ⊛ value32 limit ⊛ value32 «early_room» ⊛ value32 hold ⊛ value32 mss ⊛ truthOf both) ⌝ }
 {
     let Number::Value(time) = time else {
         return Reading::Bad;
@@ -142,12 +139,17 @@ fn settings_order(
     let Number32::Value(mss) = mss else {
         return Reading::Bad;
     };
+    let Switch::Value(both) = both else {
+        return Reading::Bad;
+    };
+    let codings = codings_of(both);
     let settings = Settings {
         on,
         limit,
         early_room,
         hold,
         mss,
+        codings,
     };
     Reading::Known(Order::Settings { time, settings })
 }
@@ -242,18 +244,6 @@ fn resend_order(time: Number, addr: ByteString, port: Number16, out_len: Number)
     })
 }
 
-fn read_switch(word: &[u8]) -> Switch
-    ensures { λ r. ⌜ r ≡ switchIn (now (word .entry)) ⌝ }
-{
-    if is_word(word, b"on") {
-        return Switch::Value(true);
-    }
-    if is_word(word, b"off") {
-        return Switch::Value(false);
-    }
-    Switch::Bad
-}
-
 // start ADDRESS PORT KEY
 fn read_start(line: &[u8], own: &mut [u8], key: &mut [u8]) -> Reading
     ensures { λ r. ⌜ r ≡ startReading (now (line .entry)) (length (now (own .entry))) (length (now (key .entry))) ⌝ }
@@ -266,17 +256,17 @@ fn read_start(line: &[u8], own: &mut [u8], key: &mut [u8]) -> Reading
     start_order(n, port, m)
 }
 
-// settings TIME on|off LIMIT ROOM HOLD MSS
-fn read_settings(line: &[u8]) -> Reading
-    ensures { λ r. ⌜ r ≡ settingsReading (now (line .entry)) ⌝ }
+// settings TIME on|off LIMIT ROOM HOLD MSS, with new|both as it was read
+fn read_settings(line: &[u8], both: Switch) -> Reading
+    ensures { λ r. ⌜ r ≡ settingsReading (truthOf both) (now (line .entry)) ⌝ }
 {
     let time = time_at(line, 1);
-    let on = read_switch(word_at(line, 2));
+    let on = on_at(line, 2);
     let limit = number_at(line, 3);
     let early_room = number_at(line, 4);
     let hold = number_at(line, 5);
     let mss = number_at(line, 6);
-    settings_order(time, on, limit, early_room, hold, mss)
+    settings_order(time, on, limit, early_room, hold, mss, both)
 }
 
 // key TIME KEY
@@ -329,7 +319,7 @@ fn read_resend(line: &[u8], addr: &mut [u8]) -> Reading
 // Reads a request by a connection's name, or a key, which has one byte string at most.
 fn read_named(line: &[u8], a: &mut [u8]) -> Reading
     requires { ⌜ length (now a) ≡ 4096 ⌝ }
-    ensures { λ r. ⌜ ((b : List ℕ) → requestRead r (now (a .exit)) b ≡ firstCase (drop 3 (cases (now (line .entry))))) ⌝ }
+    ensures { λ r. ⌜ ((b : List ℕ) → requestRead r (now (a .exit)) b ≡ firstCase (drop 4 (cases (now (line .entry))))) ⌝ }
 {
     if is_call(line, b"key", 2) {
         return read_key(line, a);
@@ -358,7 +348,10 @@ pub(crate) fn read_request(line: &[u8], a: &mut [u8], b: &mut [u8]) -> Reading
         return read_start(line, a, b);
     }
     if is_call(line, b"settings", 6) {
-        return read_settings(line);
+        return read_settings(line, Switch::Value(false));
+    }
+    if is_call(line, b"settings", 7) {
+        return read_settings(line, both_at(line, 7));
     }
     read_named(line, a)
 }

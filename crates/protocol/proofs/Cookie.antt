@@ -12,6 +12,7 @@ use Rattle.cipher.proofs.Bounds.{cipher-byte}
 use Rattle.lists.specs.Bytes.{Bytes, sameBytes}
 use Rattle.segment.specs.Header.{fieldsOf, kindOf, optionArea}
 use Rattle.segment.specs.Options.{readOptions, optionsOf}
+use Rattle.segment.specs.declared.options.Codings.{Codings}
 use Rattle.segment.specs.declared.header.Kind.the-variants.{Syn}
 use Rattle.segment.proofs.Cookie.{syn-options}
 use Rattle.lists.proofs.ByteLists.{bytes-take, bytes-of, each-byte}
@@ -82,13 +83,13 @@ unfolding right
 never-right k b o n = rw (n (k .present), n (k .previous)) (and-false (k .rotated))
 
 -- the option of a segment, from the options that were found in it
-pub carried-found : (seg : List ℕ) → carriedBy seg ≡ found (optionsOf seg .fast) (optionArea seg)
+pub carried-found : (g : Codings) (seg : List ℕ) → carriedBy g seg ≡ found (optionsOf g seg .fast) (optionArea seg)
 unfolding carriedBy
-carried-found seg = refl
+carried-found g seg = refl
 
 -- and of an opening, from those in its option area
-pub carried-syn : (seg : List ℕ) → kindOf (fieldsOf seg .flags) ≡ Syn → carriedBy seg ≡ found (readOptions (optionArea seg) .fast) (optionArea seg)
-carried-syn seg e = rw (syn-options seg e) at (carried-found seg)
+pub carried-syn : (g : Codings) (seg : List ℕ) → kindOf (fieldsOf seg .flags) ≡ Syn → carriedBy g seg ≡ found (readOptions g (optionArea seg) .fast) (optionArea seg)
+carried-syn g seg e = rw (syn-options g seg e) at (carried-found g seg)
 
 -- a cookie is those 8 bytes
 pub cookie-is : (w b : List ℕ) → take 8 (cipher w b) ≡ cookieUnder w b

@@ -153,7 +153,7 @@ module _ (l : Listener) (j : Journal) (t : ℕ) (a : Agrees l j) (forward : l .c
   unchanged = record { long = a .table .long; fits = a .table .fits; match = settled now }
 
   -- a cookie is right under the round keys exactly if it is under the journal's keys
-  right-same : (src seg : List ℕ) → right (l .keys) (block src) (carriedBy seg) ≡ hasRight (atTime t j) src seg
+  right-same : (src seg : List ℕ) → right (l .keys) (block src) (carriedBy (j .settings .codings) seg) ≡ hasRight (atTime t j) src seg
   unfolding right hasRight
   right-same src seg = ap₂ _||_ (ap (λ k. rightUnder k b o) (a .present)) (before (l .keys) (j .previous) (a .previous))
     where
@@ -161,7 +161,7 @@ module _ (l : Listener) (j : Journal) (t : ℕ) (a : Agrees l j) (forward : l .c
       b = block src
 
       o : Carried
-      o = carriedBy seg
+      o = carriedBy (j .settings .codings) seg
 
       before : (k : Keys) (was : PreviousKey) → Previous k was → (k .rotated && rightUnder (k .previous) b o) ≡ rightBefore was b o
       before k noKey e = rw e
@@ -170,7 +170,7 @@ module _ (l : Listener) (j : Journal) (t : ℕ) (a : Agrees l j) (forward : l .c
   early-same : (p : Peer) (src seg : List ℕ) → steps.isEarly (view l t p) (block src) seg ≡ opensEarly (atTime t j) src seg
   unfolding steps.isEarly opensEarly
   early-same p src seg =
-      and-assoc (l .settings .on) (ltb (pendingAt t (l .slots)) (l .settings .limit)) (right (l .keys) (block src) (carriedBy seg))
+      and-assoc (l .settings .on) (ltb (pendingAt t (l .slots)) (l .settings .limit)) (right (l .keys) (block src) (carriedBy (l .settings .codings) seg))
       ∙ rw (a .settings, right-same src seg, pending-same now)
 
   -- a peer, by an address of the family

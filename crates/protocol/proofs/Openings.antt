@@ -23,7 +23,7 @@ use Rattle.protocol.specs.Table.{isLive, isPending, isFree, freeSlot, ne
 use Rattle.protocol.specs.Call.{segment, sender}
 use Rattle.protocol.specs.View.{known, view}
 use Rattle.protocol.specs.Refusals.{wireChecks, callCheck}
-use Rattle.protocol.specs.Step.{cookiesEnabled, accepts, isEarly, isFresh, newEvent, newStatus, synAckTo, put, after, step}
+use Rattle.protocol.specs.Step.{cookiesEnabled, accepts, isEarly, isFresh, newEvent, newStatus, carriedAt, codingFor, synAckTo, put, after, step}
 use Rattle.protocol.specs.declared.slots.Slot.{Slot}
 use Rattle.protocol.specs.declared.state.View.{View}
 use Rattle.protocol.specs.declared.state.Listener.{Listener}
@@ -92,28 +92,28 @@ pub record Admitted (l : Listener) (t : ℕ) : Type 0 where
 
 -- early: Fast Open is on, pending is below the limit, and the cookie is right
 pub is-early : (l : Listener) (t : ℕ) (src seg : List ℕ) → l .settings .on ≡ true → pendingAt t (l .slots) < l .settings .limit
-    → right (l .keys) (block src) (carriedBy seg) ≡ true → isEarly (view l t (sender src seg)) (block src) seg ≡ true
+    → right (l .keys) (block src) (carriedBy (l .settings .codings) seg) ≡ true → isEarly (view l t (sender src seg)) (block src) seg ≡ true
 unfolding isEarly
 is-early l t src seg on below r = rw (on, lt-ltb (pendingAt t (l .slots)) (l .settings .limit) below, r)
 
 -- a new opening is early, and its SYN-ACK has a fresh cookie, where cookies are enabled and by what it carries
-pub early-is : (v : View) (b seg : List ℕ) → isEarly v b seg ≡ cookiesEnabled v && right (v .keys) b (carriedBy seg)
+pub early-is : (v : View) (b seg : List ℕ) → isEarly v b seg ≡ cookiesEnabled v && right (v .keys) b (carriedAt v seg)
 unfolding isEarly
 early-is v b seg = refl
 
-pub fresh-is : (v : View) (b seg : List ℕ) → isFresh v b seg ≡ cookiesEnabled v && (counts (carriedBy seg) && not (rightUnder (v .keys .present) b (carriedBy seg)))
+pub fresh-is : (v : View) (b seg : List ℕ) → isFresh v b seg ≡ cookiesEnabled v && (counts (carriedAt v seg) && not (rightUnder (v .keys .present) b (carriedAt v seg)))
 unfolding isFresh
 fresh-is v b seg = refl
 
 -- without a right cookie it is not early, and where an option counts it gets a cookie, if Fast Open is on and pending is below the limit
-pub wrong-plain : (v : View) (b seg : List ℕ) → right (v .keys) b (carriedBy seg) ≡ false → isEarly v b seg ≡ false
+pub wrong-plain : (v : View) (b seg : List ℕ) → right (v .keys) b (carriedAt v seg) ≡ false → isEarly v b seg ≡ false
 wrong-plain v b seg w = early-is v b seg ∙ rw w (and-false (v .settings .on && v .below))
 
 pub wrong-fresh : (l : Listener) (t : ℕ) (src seg : List ℕ) → l .settings .on ≡ true → pendingAt t (l .slots) < l .settings .limit
-    → right (l .keys) (block src) (carriedBy seg) ≡ false → counts (carriedBy seg) ≡ true → isFresh (view l t (sender src seg)) (block src) seg ≡ true
+    → right (l .keys) (block src) (carriedBy (l .settings .codings) seg) ≡ false → counts (carriedBy (l .settings .codings) seg) ≡ true → isFresh (view l t (sender src seg)) (block src) seg ≡ true
 wrong-fresh l t src seg on below w some =
     fresh-is (view l t (sender src seg)) (block src) seg
-    ∙ rw (on, lt-ltb (pendingAt t (l .slots)) (l .settings .limit) below, some, wrong-now (l .keys) (block src) (carriedBy seg) w)
+    ∙ rw (on, lt-ltb (pendingAt t (l .slots)) (l .settings .limit) below, some, wrong-now (l .keys) (block src) (carriedBy (l .settings .codings) seg) w)
 
 module _ (l : Listener) (t : ℕ) (src seg : List ℕ) (iss out-len : ℕ) (syn : kindOf (fieldsOf seg .flags) ≡ Syn)
     (new : known (view l t (sender src seg)) ≡ false) where
@@ -142,7 +142,7 @@ module _ (l : Listener) (t : ℕ) (src seg : List ℕ) (iss out-len : ℕ) (syn 
         listener = put l t (freePlace t (l .slots)) (slotFor early src seg iss (accepts (l .settings) seg));
         event = newEvent early (accepts (l .settings) seg);
         written = length (synAckTo (view l t (sender src seg)) src (slotFor early src seg iss (accepts (l .settings) seg))
-            (isFresh (view l t (sender src seg)) (block src) seg) out-len);
+            (isFresh (view l t (sender src seg)) (block src) seg) (codingFor (view l t (sender src seg)) seg) out-len);
       }
   unfolding step after
   step-new true e c = rw (c, syn, new, e)

@@ -1,6 +1,6 @@
 -- The outcome of each call, refused and done, from what its checks come to. Assumes nothing.
 use Prim.Native.Nat.{ℕ, _≤_}
-use mathlib.Core.Path.{_≡_, refl, sym, ap, _∙_}
+use mathlib.Core.Path.{_≡_, refl, sym, ap, _∙_, ap₂}
 use mathlib.Core.Bool.{Bool, true, false, cond, not, false≢true}
 use mathlib.Core.List.{List, [], _++_}
 use lib.Dec.{leb}
@@ -14,6 +14,8 @@ use Rattle.segment.specs.declared.refusal.Refusal.{Refusal}
 use Rattle.segment.specs.declared.refusal.Refusal.the-variants.{NoConnection, Range}
 use Rattle.segment.specs.declared.refusal.Check.{Check}
 use Rattle.segment.specs.declared.refusal.Check.the-variants.{Clear, Refused}
+use Rattle.segment.specs.declared.options.Coding.{Coding}
+use Rattle.segment.specs.declared.options.Coding.the-variants.{New}
 use Rattle.segment.specs.declared.header.Kind.{Kind}
 use Rattle.lists.proofs.Bools.{and-true}
 use Rattle.segment.proofs.Exchange.{syn-ack-without}
@@ -27,7 +29,7 @@ use Rattle.protocol.specs.Table.{isWaiting}
 use Rattle.protocol.specs.Call.{Call, segment, settings, key, abandon, resend, close, sender}
 use Rattle.protocol.specs.View.{ownAddress, scanFor, view}
 use Rattle.protocol.specs.Refusals.{inRange, isKey, isReleasable, releaseOf, outputChecks, kindChecks, wireChecks, callCheck}
-use Rattle.protocol.specs.Step.{segmentEvent, heldUntil, slotAfter, freshWith, synAckFrom, synAckTo, writesSynAck, segmentOutput, segmentAfter, moved, freed, storedSettings, withKey, after, step, outputOf}
+use Rattle.protocol.specs.Step.{segmentEvent, heldUntil, slotAfter, freshWith, codingFor, synAckFrom, synAckTo, writesSynAck, segmentOutput, segmentAfter, moved, freed, storedSettings, withKey, after, step, outputOf}
 use Rattle.protocol.specs.declared.state.Settings.{Settings}
 use Rattle.protocol.specs.declared.state.LocalEndpoint.{LocalEndpoint}
 use Rattle.protocol.specs.declared.state.View.{View}
@@ -45,11 +47,12 @@ refusedWith l r = record { listener = l; event = events.Refused r; written = 0 }
 abbrev pub doneWith : Listener → Outcome
 doneWith l = record { listener = l; event = events.Done; written = 0 }
 
--- a SYN-ACK without a fresh cookie is the same whatever cookie is at hand, and so is one whose cookie is the fresh one
-pub any-cookie : (own a : List ℕ) (v : View) (s : Slot) (fresh : Bool) (c d : List ℕ) (out-len : ℕ) → (fresh ≡ true → c ≡ d)
-    → synAckBytes own a (synAckFrom (v .local) (v .settings .mss) s fresh) c out-len ≡ synAckBytes own a (synAckFrom (v .local) (v .settings .mss) s fresh) d out-len
-any-cookie own a v s true c d out-len e = ap (λ (x : List ℕ). synAckBytes own a (synAckFrom (v .local) (v .settings .mss) s true) x out-len) (e refl)
-any-cookie own a v s false c d out-len e = syn-ack-without own a (synAckFrom (v .local) (v .settings .mss) s false) c d out-len refl
+-- a SYN-ACK without a fresh cookie is the same whatever cookie and coding are at hand, and so is one whose cookie is the fresh one, in its coding
+pub any-cookie : (own a : List ℕ) (v : View) (s : Slot) (fresh : Bool) (x y : Coding) (c d : List ℕ) (out-len : ℕ) → (fresh ≡ true → x ≡ y) → (fresh ≡ true → c ≡ d)
+    → synAckBytes own a (synAckFrom (v .local) (v .settings .mss) s fresh x) c out-len ≡ synAckBytes own a (synAckFrom (v .local) (v .settings .mss) s fresh y) d out-len
+any-cookie own a v s true x y c d out-len k e =
+    ap₂ (λ (z : Coding) (ck : List ℕ). synAckBytes own a (synAckFrom (v .local) (v .settings .mss) s true z) ck out-len) (k refl) (e refl)
+any-cookie own a v s false x y c d out-len k e = syn-ack-without own a (synAckFrom (v .local) (v .settings .mss) s false x) x y c d out-len refl
 
 module _ (l : Listener) (t : ℕ) where
   abbrev Timely : Check
@@ -143,8 +146,8 @@ module _ (l : Listener) (t : ℕ) where
             (step-refused l (resend t a p out-len) j, output-refused l (resend t a p out-len) j)
 
         pub resend-done : isWaiting (v .slot .status) ≡ true
-            → (step l (resend t a p out-len) ≡ record { listener = moved l t (l .slots); event = events.Done; written = length (synAckTo v a (v .slot) false out-len) })
-            × (outputOf l (resend t a p out-len) ≡ synAckTo v a (v .slot) false out-len)
+            → (step l (resend t a p out-len) ≡ record { listener = moved l t (l .slots); event = events.Done; written = length (synAckTo v a (v .slot) false New out-len) })
+            × (outputOf l (resend t a p out-len) ≡ synAckTo v a (v .slot) false New out-len)
         unfolding after
         resend-done q =
             let at : cond (not (isWaiting (v .slot .status))) (Refused NoConnection) Clear ≡ Clear = rw q in
@@ -201,13 +204,14 @@ module _ (l : Listener) (t : ℕ) where
             let none : segmentOutput the-view t src seg iss out-len done ≡ [] = rw (rw event-is at q) in
             (rw (next-is, event-is) (sym (rw none at (step-done l this clear))), output-done l this clear ∙ none)
 
-        pub segment-writes : {fresh : Bool} {cookie : List ℕ} → fresh ≡ freshWith the-view (block src) seg done → (fresh ≡ true → cookie ≡ cookieUnder (the-view .keys .present) (block src)) → writesSynAck e ≡ true
-            → let bytes = synAckBytes (ownAddress (the-view .local)) src (synAckFrom (the-view .local) (the-view .settings .mss) s fresh) cookie out-len in
+        pub segment-writes : {fresh : Bool} {coding : Coding} {cookie : List ℕ} → fresh ≡ freshWith the-view (block src) seg done → (fresh ≡ true → coding ≡ codingFor the-view seg)
+            → (fresh ≡ true → cookie ≡ cookieUnder (the-view .keys .present) (block src)) → writesSynAck e ≡ true
+            → let bytes = synAckBytes (ownAddress (the-view .local)) src (synAckFrom (the-view .local) (the-view .settings .mss) s fresh coding) cookie out-len in
             (record { listener = next; event = e; written = length bytes } ≡ step l this) × (outputOf l this ≡ bytes)
-        segment-writes {fresh} {cookie} fresh-is cookie-is q =
+        segment-writes {fresh} {coding} {cookie} fresh-is coding-is cookie-is q =
             let some : segmentOutput the-view t src seg iss out-len done
-            ≡ synAckTo the-view src (slotAfter the-view (heldUntil the-view t) (block src) (fieldsOf seg) iss done) (freshWith the-view (block src) seg done) out-len = rw (rw event-is at q) in
-            let same = any-cookie (ownAddress (the-view .local)) src the-view s fresh cookie (cookieUnder (the-view .keys .present) (block src)) out-len cookie-is in
+            ≡ synAckTo the-view src (slotAfter the-view (heldUntil the-view t) (block src) (fieldsOf seg) iss done) (freshWith the-view (block src) seg done) (codingFor the-view seg) out-len = rw (rw event-is at q) in
+            let same = any-cookie (ownAddress (the-view .local)) src the-view s fresh coding (codingFor the-view seg) cookie (cookieUnder (the-view .keys .present) (block src)) out-len coding-is cookie-is in
             let whole = some ∙ sym (rw (slot-is, fresh-is) at same) in
             (rw (next-is, event-is, slot-is, fresh-is) (sym (rw whole at (step-done l this clear))), rw (slot-is, fresh-is) (output-done l this clear ∙ whole))
 
@@ -230,14 +234,14 @@ module _ (l : Listener) (t : ℕ) (a : List ℕ) (p out-len : ℕ) (out : List �
   here = view l t (record { address = a; port = p })
 
   pub resent : {s : Outcome} {bytes : List ℕ}
-      → (s ≡ record { listener = moved l t (l .slots); event = events.Done; written = length (synAckTo here a (here .slot) false out-len) })
-      × (bytes ≡ synAckTo here a (here .slot) false out-len)
+      → (s ≡ record { listener = moved l t (l .slots); event = events.Done; written = length (synAckTo here a (here .slot) false New out-len) })
+      × (bytes ≡ synAckTo here a (here .slot) false New out-len)
       → {x : Slot} → x ≡ here .slot → {w : ℕ} {last : List ℕ} (cookie : List ℕ)
-      → (w ≡ length (synAckBytes (ownAddress (l .local)) a (synAckFrom (l .local) (l .settings .mss) x false) cookie out-len))
-      × (last ≡ overwrite (synAckBytes (ownAddress (l .local)) a (synAckFrom (l .local) (l .settings .mss) x false) cookie out-len) out)
+      → (w ≡ length (synAckBytes (ownAddress (l .local)) a (synAckFrom (l .local) (l .settings .mss) x false New) cookie out-len))
+      × (last ≡ overwrite (synAckBytes (ownAddress (l .local)) a (synAckFrom (l .local) (l .settings .mss) x false New) cookie out-len) out)
       → (record { listener = moved l t (l .slots); event = events.Done; written = w } ≡ s) × (last ≡ overwrite bytes out)
   resent q ex cookie e′ =
-      let same = any-cookie (ownAddress (l .local)) a here (here .slot) false cookie (cookieUnder (here .keys .present) (block a)) out-len (λ x. absurd (false≢true x)) in
+      let same = any-cookie (ownAddress (l .local)) a here (here .slot) false New New cookie (cookieUnder (here .keys .present) (block a)) out-len (λ _. refl) (λ x. absurd (false≢true x)) in
       let f = rw (ex, same) at e′ in
       (rw (f .0) (sym (q .0)), f .1 ∙ ap (λ (z : List ℕ). overwrite z out) (sym (q .1)))
 

@@ -119,7 +119,7 @@ part-whole seg out-len = rw (le-ltb (length (payloadOf seg)) (min (length (paylo
 -- a new one with a right cookie, below the limit, is early and takes the free place
 early : (l : Listener) (src : List ℕ) (a : Arrival) → Opens l src a → known (view l (a .time) (sender src (a .seg))) ≡ false
     → freePlace (a .time) (l .slots) < 64 → l .settings .on ≡ true → pendingAt (a .time) (l .slots) < l .settings .limit
-    → right (l .keys) (block src) (carriedBy (a .seg)) ≡ true
+    → right (l .keys) (block src) (carriedBy (l .settings .codings) (a .seg)) ≡ true
     → (step l (callOf src a) .event ≡ events.FastOpened (upToEarlyRoom l a))
     × (step l (callOf src a) .listener ≡ put l (a .time) (freePlace (a .time) (l .slots)) (slotFor true src (a .seg) (a .iss) (upToEarlyRoom l a)))
 early l src a o new free on below r =

@@ -1,4 +1,4 @@
--- Document 01, "Cookie": the cookie of an address under a key, and when a cookie is right.
+-- Document 01, "Cookie", and document 02, Item 4: the cookie of an address under a key, and when a cookie is right. Whether a cookie is right, and whether a fresh one is due, does not depend on its coding.
 -- Assumes nothing.
 use Prim.Native.Nat.{ℕ}
 use mathlib.Core.List.{List}
@@ -7,6 +7,7 @@ use lib.ListN.{take, drop}
 use Rattle.cipher.specs.Cipher.{cipher}
 use Rattle.segment.specs.Header.{optionArea}
 use Rattle.segment.specs.Options.{optionsOf}
+use Rattle.segment.specs.declared.options.Codings.{Codings}
 use Rattle.segment.specs.declared.options.FastOpenOption.{FastOpenOption}
 use Rattle.segment.specs.declared.options.FastOpenOption.the-variants.{Absent, Request, Cookie}
 use Rattle.lists.specs.Bytes.{sameBytes}
@@ -24,12 +25,12 @@ pub data Carried : Type 0 where
 -- the option that was found in an option area
 abbrev pub found : FastOpenOption → List ℕ → Carried
 found Absent area = nothing
-found Request area = request
-found (Cookie at len) area = cookie (take len (drop at area))
+found (Request coding) area = request
+found (Cookie coding at len) area = cookie (take len (drop at area))
 
--- the Fast Open option of a segment that counts
-unfoldable pub carriedBy : List ℕ → Carried
-carriedBy seg = found (optionsOf seg .fast) (optionArea seg)
+-- the Fast Open option of a segment that counts, in whichever coding of those that a setting counts
+unfoldable pub carriedBy : Codings → List ℕ → Carried
+carriedBy g seg = found (optionsOf g seg .fast) (optionArea seg)
 
 abbrev pub counts : Carried → Bool
 counts nothing = false

@@ -1,4 +1,4 @@
--- Document 01, "Demand 3's book": a record of the calls that is kept apart from the listener. It is fed the start's arguments, each call's and the number
+-- Document 01, "Demand 3's book", and document 02, Item 4: a record of the calls that is kept apart from the listener. It is fed the start's arguments, each call's and the number
 -- returned, and nothing from the slots.
 -- Assumes nothing.
 use Prim.Native.Nat.{ℕ, zero, suc, _+_, min}
@@ -8,6 +8,7 @@ use lib.Dec.{ltb}
 use lib.ListN.{length, take}
 use Rattle.cipher.specs.KeyExpansion.{keyExpansion}
 use Rattle.segment.specs.Header.{fieldsOf, payloadOf, kindOf}
+use Rattle.segment.specs.declared.options.Codings.the-variants.{NewOnly}
 use Rattle.segment.specs.declared.header.Kind.{Kind}
 use Rattle.segment.specs.declared.header.Kind.the-variants.{Syn, Rst, Ack, Other}
 use Rattle.lists.specs.Lists.{tally, amend}
@@ -42,7 +43,7 @@ abbrev pub freshJournal : List ℕ → ℕ → List ℕ → Journal
 freshJournal own port k =
     record {
       time = 0;
-      settings = record { on = false; limit = 0; «early_room» = 0; hold = 0; mss = freshMss };
+      settings = record { on = false; limit = 0; «early_room» = 0; hold = 0; mss = freshMss; codings = NewOnly };
       present = k;
       previous = noKey;
       entries = [];
@@ -109,13 +110,15 @@ amended j p rule = with j (amend (only p rule) (j .entries))
 
 -- Openings
 
--- the cookie is the one for the address under the present key, or under the previous one
+-- the cookie, of the option that counts under the settings in force, is the one for the address under the present key, or under the previous one
 abbrev pub rightBefore : PreviousKey → List ℕ → Carried → Bool
 rightBefore noKey b o = false
 rightBefore (aKey k) b o = rightUnder (keyExpansion k) b o
 
 unfoldable pub hasRight : Journal → List ℕ → List ℕ → Bool
-hasRight j src seg = rightUnder (keyExpansion (j .present)) (block src) (carriedBy seg) || rightBefore (j .previous) (block src) (carriedBy seg)
+hasRight j src seg =
+    let o = carriedBy (settingsOf j .codings) seg in
+    rightUnder (keyExpansion (j .present)) (block src) o || rightBefore (j .previous) (block src) o
 
 -- the three terms for an early opening: on, below the limit so far, a right cookie
 unfoldable pub opensEarly : Journal → List ℕ → List ℕ → Bool

@@ -1,5 +1,5 @@
--- The listener's rules, as document 01 defines them. In reading order: the cookie; the slots; the calls and what an event is in 01's words; what a call's checks, event and output depend on in the
--- listener; its refusals; the call itself; the journal of the calls and demand 3; the two openings; and the table of sixteen.
+-- The listener's rules, as documents 01 and 02 define them. In reading order: the cookie; the slots; the calls and what an event is in 01's words; what a call's checks, event and output depend on in the
+-- listener; its refusals; the call itself; the journal of the calls and demand 3; the two openings; the SYN-ACK to a new opening, as it is read; and the table of sixteen.
 pub mod Cookie
 pub mod Table
 pub mod Call
@@ -9,4 +9,5 @@ pub mod Step
 pub mod Journal
 pub mod Demand3
 pub mod TwoOpenings
+pub mod Answered
 pub mod Sixteen

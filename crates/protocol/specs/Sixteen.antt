@@ -11,6 +11,9 @@ use Rattle.segment.specs.Sequence.{nextAfter}
 use Rattle.segment.specs.Options.{nothing, readOptions}
 use Rattle.segment.specs.Write.{synAckFields, synAckBytes}
 use Rattle.segment.specs.Found.{onlyFastOpen, FoundCookie, EarlierStands}
+use Rattle.segment.specs.declared.options.Coding.{Coding}
+use Rattle.segment.specs.declared.options.Coding.the-variants.{New}
+use Rattle.segment.specs.declared.options.Codings.{Codings}
 use Rattle.segment.specs.declared.options.FastOpenOption.the-variants.{Request}
 use Rattle.segment.specs.declared.refusal.Refusal.the-variants.{Sequence}
 use Rattle.segment.specs.declared.refusal.Check.the-variants.{Clear, Refused}
@@ -37,7 +40,7 @@ pub record NewOpening (l : Listener) (t : ℕ) (src seg : List ℕ) (iss out-len
 
 -- its cookie is right, under whatever keys the listener has
 abbrev pub HasRight : Listener → List ℕ → List ℕ → Type 0
-HasRight l src seg = right (l .keys) (block src) (carriedBy seg) ≡ true
+HasRight l src seg = right (l .keys) (block src) (carriedBy (l .settings .codings) seg) ≡ true
 
 -- a completion for a connection that waits for it, whose next sequence number is 5, with the right acknowledgement
 pub record CompletesFive (v : View) (h : Header) : Type 0 where
@@ -53,16 +56,16 @@ pub record Sixteen : Type 0 where
   pub row3 : (v : View) (h : Header) → CompletesFive v h → h .seq ≡ 65539 → refusal (kindChecks v h Ack) ≡ Clear
   pub row4 : (v : View) (h : Header) → CompletesFive v h → h .seq ≡ 65540 → refusal (kindChecks v h Ack) ≡ Refused Sequence
   pub row5 : (v : View) (h : Header) → CompletesFive v h → h .seq ≡ 4 → refusal (kindChecks v h Ack) ≡ Refused Sequence
-  -- options: a request; skipped, so that one behind is found; a cookie; reading ends, and one before stands
-  pub row6 : readOptions (34 ∷ 2 ∷ []) ≡ onlyFastOpen Request
-  pub row7 : (readOptions (34 ∷ 3 ∷ 0 ∷ []) ≡ nothing) × (readOptions (34 ∷ 3 ∷ 0 ∷ 34 ∷ 2 ∷ []) ≡ onlyFastOpen Request)
-  pub row8 : (readOptions (34 ∷ 4 ∷ 1 ∷ 2 ∷ []) ≡ nothing) × (readOptions (34 ∷ 4 ∷ 1 ∷ 2 ∷ 34 ∷ 2 ∷ []) ≡ onlyFastOpen Request)
-  pub row9 : (a b c d : ℕ) → FoundCookie (a ∷ b ∷ c ∷ d ∷ []) (34 ∷ 6 ∷ a ∷ b ∷ c ∷ d ∷ [])
-  pub row10 : (a b c d e f g h i j k l m n o p : ℕ)
-      → FoundCookie (a ∷ b ∷ c ∷ d ∷ e ∷ f ∷ g ∷ h ∷ i ∷ j ∷ k ∷ l ∷ m ∷ n ∷ o ∷ p ∷ [])
+  -- options, under either setting of the codings: a request; skipped, so that one behind is found; a cookie; reading ends, and one before stands
+  pub row6 : (g : Codings) → readOptions g (34 ∷ 2 ∷ []) ≡ onlyFastOpen (Request New)
+  pub row7 : (g : Codings) → (readOptions g (34 ∷ 3 ∷ 0 ∷ []) ≡ nothing) × (readOptions g (34 ∷ 3 ∷ 0 ∷ 34 ∷ 2 ∷ []) ≡ onlyFastOpen (Request New))
+  pub row8 : (g : Codings) → (readOptions g (34 ∷ 4 ∷ 1 ∷ 2 ∷ []) ≡ nothing) × (readOptions g (34 ∷ 4 ∷ 1 ∷ 2 ∷ 34 ∷ 2 ∷ []) ≡ onlyFastOpen (Request New))
+  pub row9 : (g : Codings) (a b c d : ℕ) → FoundCookie g (a ∷ b ∷ c ∷ d ∷ []) (34 ∷ 6 ∷ a ∷ b ∷ c ∷ d ∷ [])
+  pub row10 : (u : Codings) (a b c d e f g h i j k l m n o p : ℕ)
+      → FoundCookie u (a ∷ b ∷ c ∷ d ∷ e ∷ f ∷ g ∷ h ∷ i ∷ j ∷ k ∷ l ∷ m ∷ n ∷ o ∷ p ∷ [])
       (34 ∷ 18 ∷ a ∷ b ∷ c ∷ d ∷ e ∷ f ∷ g ∷ h ∷ i ∷ j ∷ k ∷ l ∷ m ∷ n ∷ o ∷ p ∷ [])
-  pub row11 : (rest : List ℕ) → (readOptions (34 ∷ 0 ∷ rest) ≡ nothing) × EarlierStands (34 ∷ 0 ∷ rest)
-  pub row12 : (readOptions (34 ∷ []) ≡ nothing) × EarlierStands (34 ∷ [])
+  pub row11 : (g : Codings) (rest : List ℕ) → (readOptions g (34 ∷ 0 ∷ rest) ≡ nothing) × EarlierStands g (34 ∷ 0 ∷ rest)
+  pub row12 : (g : Codings) → (readOptions g (34 ∷ []) ≡ nothing) × EarlierStands g (34 ∷ [])
   -- limit 0: plain
   pub row13 : (l : Listener) (t : ℕ) (src seg : List ℕ) (iss out-len : ℕ) → NewOpening l t src seg iss out-len
       → l .settings .limit ≡ 0
@@ -77,9 +80,9 @@ pub record Sixteen : Type 0 where
       → l .settings .on ≡ true → l .settings .limit ≡ 2 → pendingAt t (l .slots) ≡ 2 → HasRight l src seg
       → (step l (segment t src seg iss out-len) .event ≡ events.Regular)
       × (step l (segment t src seg iss out-len) .written ≡ 24)
-  -- the SYN-ACK's bytes, in any output that is long enough
-  pub row16 : (cookie : List ℕ) (out-len : ℕ) → 24 ≤ out-len
+  -- the SYN-ACK's bytes, in any output that is long enough, whatever coding a cookie would have
+  pub row16 : (c : Coding) (cookie : List ℕ) (out-len : ℕ) → 24 ≤ out-len
       → synAckBytes (192 ∷ 0 ∷ 2 ∷ 2 ∷ []) (192 ∷ 0 ∷ 2 ∷ 1 ∷ [])
-      (record { source = 443; dest = 40000; iss = 1000; irs = 4294967295; accepted = 0; mss = 1460; fresh = false }) cookie out-len
+      (record { source = 443; dest = 40000; iss = 1000; irs = 4294967295; accepted = 0; mss = 1460; fresh = false; coding = c }) cookie out-len
       ≡ 0x01 ∷ 0xBB ∷ 0x9C ∷ 0x40 ∷ 0x00 ∷ 0x00 ∷ 0x03 ∷ 0xE8 ∷ 0x00 ∷ 0x00 ∷ 0x00 ∷ 0x00 ∷ 0x60 ∷ 0x12 ∷ 0xFF ∷ 0xFF
       ∷ 0x72 ∷ 0x2F ∷ 0x00 ∷ 0x00 ∷ 0x02 ∷ 0x04 ∷ 0x05 ∷ 0xB4 ∷ []

@@ -1,4 +1,4 @@
--- Document 01, "Listener": the start, and one call on a listener with its outcome: the listener next, what happened and what is written.
+-- Document 01, "Listener", and document 02, Item 4: the start, and one call on a listener with its outcome: the listener next, what happened and what is written.
 -- Assumes nothing.
 use Prim.Native.Nat.{ℕ, _+_, min}
 use mathlib.Core.List.{List, [], _∷_}
@@ -7,6 +7,7 @@ use lib.ListN.{length, replicate, set}
 use Rattle.cipher.specs.KeyExpansion.{keyExpansion}
 use Rattle.segment.specs.Refusal.{Checks, refusal}
 use Rattle.segment.specs.Header.{fieldsOf, payloadOf, kindOf}
+use Rattle.segment.specs.Options.{optionsOf, codingOf}
 use Rattle.segment.specs.Write.{synAckBytes}
 use Rattle.segment.specs.declared.refusal.Refusal.the-variants.{Address, Range}
 use Rattle.segment.specs.declared.refusal.Check.{Check}
@@ -14,10 +15,13 @@ use Rattle.segment.specs.declared.refusal.Check.the-variants.{Clear, Refused}
 use Rattle.segment.specs.declared.header.Header.{Header}
 use Rattle.segment.specs.declared.header.Kind.{Kind}
 use Rattle.segment.specs.declared.header.Kind.the-variants.{Syn, Rst, Ack, Other}
+use Rattle.segment.specs.declared.options.Coding.{Coding}
+use Rattle.segment.specs.declared.options.Coding.the-variants.{New}
+use Rattle.segment.specs.declared.options.Codings.the-variants.{NewOnly}
 use Rattle.segment.specs.declared.write.SynAck.{SynAck}
 use Rattle.endpoint.specs.Address.{Peer, isSize, familyOf, block}
 use Rattle.endpoint.specs.declared.address.Family.the-variants.{V4}
-use Rattle.protocol.specs.Cookie.{carriedBy, counts, cookieUnder, rightUnder, right}
+use Rattle.protocol.specs.Cookie.{Carried, carriedBy, counts, cookieUnder, rightUnder, right}
 use Rattle.protocol.specs.Table.{slotCount, acceptedWith, afterReset, freeSlot, newSlot, withStatus, pendingAt}
 use Rattle.protocol.specs.Call.{freshMss, Call, segment, settings, key, abandon, resend, close, sender}
 use Rattle.protocol.specs.View.{known, ownAddress, scanFor, view, viewOf}
@@ -39,9 +43,9 @@ use Rattle.protocol.specs.declared.outcome.Started.{Started}
 
 -- The start
 
--- "Fresh state": Fast Open off, limit, early room and hold 0, own MSS 536
+-- "Fresh state": Fast Open off, limit, early room and hold 0, own MSS 536, the new coding alone
 abbrev pub freshSettings : StoredSettings
-freshSettings = record { on = false; limit = 0; «early_room» = 0; hold = 0; mss = freshMss }
+freshSettings = record { on = false; limit = 0; «early_room» = 0; hold = 0; mss = freshMss; codings = NewOnly }
 
 -- a listener with no connection, at time 0
 abbrev pub blank : LocalEndpoint → Keys → Listener
@@ -75,13 +79,17 @@ startOf own port k = startedBy own port k (refusal (startChecks own k))
 abbrev pub cookiesEnabled : View → Bool
 cookiesEnabled v = v .settings .on && v .below
 
+-- the option of a segment that counts, under the settings in force
+abbrev pub carriedAt : View → List ℕ → Carried
+carriedAt v seg = carriedBy (v .settings .codings) seg
+
 -- a new opening, from the address with this block, is early
 unfoldable pub isEarly : View → List ℕ → List ℕ → Bool
-isEarly v b seg = cookiesEnabled v && right (v .keys) b (carriedBy seg)
+isEarly v b seg = cookiesEnabled v && right (v .keys) b (carriedAt v seg)
 
 -- a new opening's SYN-ACK has a fresh cookie
 unfoldable pub isFresh : View → List ℕ → List ℕ → Bool
-isFresh v b seg = cookiesEnabled v && (counts (carriedBy seg) && not (rightUnder (v .keys .present) b (carriedBy seg)))
+isFresh v b seg = cookiesEnabled v && (counts (carriedAt v seg) && not (rightUnder (v .keys .present) b (carriedAt v seg)))
 
 -- the accepted bytes of an early one: the smaller of payload and early room
 abbrev pub accepts : StoredSettings → List ℕ → ℕ
@@ -133,14 +141,14 @@ slotAfter v end b h iss (events.Refused r) = v .slot
 -- What is written
 
 -- "Answer", from a slot, with the MSS now set
-abbrev pub synAckFrom : LocalEndpoint → ℕ → Slot → Bool → SynAck
-synAckFrom local mss s fresh =
-    record { source = local .port; dest = s .port; iss = s .iss; irs = s .irs; accepted = acceptedWith (s .status); mss = mss; fresh = fresh }
+abbrev pub synAckFrom : LocalEndpoint → ℕ → Slot → Bool → Coding → SynAck
+synAckFrom local mss s fresh coding =
+    record { source = local .port; dest = s .port; iss = s .iss; irs = s .irs; accepted = acceptedWith (s .status); mss = mss; fresh = fresh; coding = coding }
 
 -- to an address, in an output of this length; a fresh cookie is the one under the present key
-abbrev pub synAckTo : View → List ℕ → Slot → Bool → ℕ → List ℕ
-synAckTo v a s fresh out-len =
-    synAckBytes (ownAddress (v .local)) a (synAckFrom (v .local) (v .settings .mss) s fresh) (cookieUnder (v .keys .present) (block a)) out-len
+abbrev pub synAckTo : View → List ℕ → Slot → Bool → Coding → ℕ → List ℕ
+synAckTo v a s fresh coding out-len =
+    synAckBytes (ownAddress (v .local)) a (synAckFrom (v .local) (v .settings .mss) s fresh coding) (cookieUnder (v .keys .present) (block a)) out-len
 
 -- openings are answered by a SYN-ACK
 abbrev pub writesSynAck : Event → Bool
@@ -162,16 +170,20 @@ freshWith v b seg events.WasReset = false
 freshWith v b seg events.Done = false
 freshWith v b seg (events.Refused r) = false
 
+-- in the coding of the opening's option
+abbrev pub codingFor : View → List ℕ → Coding
+codingFor v seg = codingOf (optionsOf (v .settings .codings) seg .fast)
+
 abbrev pub segmentOutput : View → ℕ → List ℕ → List ℕ → ℕ → ℕ → Event → List ℕ
 segmentOutput v t src seg iss out-len e =
-    cond (writesSynAck e) (synAckTo v src (slotAfter v (heldUntil v t) (block src) (fieldsOf seg) iss e) (freshWith v (block src) seg e) out-len) []
+    cond (writesSynAck e) (synAckTo v src (slotAfter v (heldUntil v t) (block src) (fieldsOf seg) iss e) (freshWith v (block src) seg e) (codingFor v seg) out-len) []
 
 abbrev pub doneOutput : View → Call → List ℕ
 doneOutput v (segment t src seg iss out-len) = segmentOutput v t src seg iss out-len (doneEvent v (segment t src seg iss out-len))
 doneOutput v (settings t g) = []
 doneOutput v (key t k) = []
 doneOutput v (abandon t a p) = []
-doneOutput v (resend t a p out-len) = synAckTo v a (v .slot) false out-len
+doneOutput v (resend t a p out-len) = synAckTo v a (v .slot) false New out-len
 doneOutput v (close t a p) = []
 
 -- The listener after a done call
@@ -200,7 +212,7 @@ freed l t p = put l t (scanFor l t p .place) (withStatus (view l t p .slot) Free
 
 -- settings as they are kept
 abbrev pub storedSettings : Settings → StoredSettings
-storedSettings g = record { on = g .on; limit = g .limit; «early_room» = g .«early_room»; hold = g .hold; mss = g .mss }
+storedSettings g = record { on = g .on; limit = g .limit; «early_room» = g .«early_room»; hold = g .hold; mss = g .mss; codings = g .codings }
 
 -- the present key becomes the previous one
 abbrev pub withKey : Keys → List ℕ → Keys

@@ -44,8 +44,8 @@ pub record TwoOpenings (l : Listener) (src : List ℕ) (a b : Arrival) : Type 0 
   pub first : Opens l src a
   pub second : Opens (afterFirst l src a) src b
   pub one-number : fieldsOf (a .seg) .seq ≡ fieldsOf (b .seg) .seq
-  pub one-cookie : carriedBy (a .seg) ≡ carriedBy (b .seg)
-  pub right-cookie : right (l .keys) (block src) (carriedBy (a .seg)) ≡ true
+  pub one-cookie : carriedBy (l .settings .codings) (a .seg) ≡ carriedBy (l .settings .codings) (b .seg)
+  pub right-cookie : right (l .keys) (block src) (carriedBy (l .settings .codings) (a .seg)) ≡ true
   pub two-ports : (fieldsOf (a .seg) .source ≡ fieldsOf (b .seg) .source) → ⊥
   -- neither is in the table
   pub first-new : known (view l (a .time) (sender src (a .seg))) ≡ false

@@ -11,10 +11,13 @@ use borrow.Author.Tests.{leb-true, eqb-true, le-leb, eq-eqb}
 use Rattle.segment.specs.Bytes.{byteAt}
 use Rattle.segment.specs.Header.{has, SYN, RST, ACK, FIN, fieldsOf, kindOf, optionArea}
 use Rattle.segment.specs.declared.header.Kind.the-variants.{Syn, Rst, Ack, Other}
+use Rattle.segment.specs.declared.options.Coding.{Coding}
+use Rattle.segment.specs.declared.options.Coding.the-variants.{New, Older}
+use Rattle.segment.specs.declared.options.Codings.{Codings}
 use Rattle.segment.specs.declared.options.FastOpenOption.{FastOpenOption}
 use Rattle.segment.specs.declared.options.FastOpenOption.the-variants.{Absent, Request, Cookie}
 use Rattle.segment.specs.declared.options.Options.{Options}
-use Rattle.segment.specs.Options.{isCookieLength, cookieAt, fastOpenOption, firstFastOpen, withOption, readFrom, readOptions, ifSyn, optionsOf, cookieBytes}
+use Rattle.segment.specs.Options.{isCookieLength, cookieAt, isIn, prefixLength, optionIn, countsCoding, fastOpenOption, firstFastOpen, withOption, readFrom, readOptions, ifSyn, optionsOf, cookieBytes, codingOf}
 use Rattle.lists.proofs.Bools.{and-true, chosen}
 
 -- 4 to 16 bytes, an even number
@@ -30,13 +33,8 @@ pub record Inside (n at len : ℕ) : Type 0 where
 
 abbrev pub AllInside : ℕ → FastOpenOption → Type 0
 AllInside n Absent = Unit {0}
-AllInside n Request = Unit {0}
-AllInside n (Cookie at len) = Inside n at len
-
-first-inside : (n : ℕ) (f g : FastOpenOption) → AllInside n f → AllInside n g → AllInside n (firstFastOpen f g)
-first-inside n Absent g p q = q
-first-inside n Request g p q = tt
-first-inside n (Cookie at len) g p q = p
+AllInside n (Request c) = Unit {0}
+AllInside n (Cookie c at len) = Inside n at len
 
 pub cookie-length : (n : ℕ) → isCookieLength n ≡ true → CookieLength n
 unfolding isCookieLength
@@ -49,48 +47,81 @@ pub cookie-length-back : (n : ℕ) → CookieLength n → isCookieLength n ≡ t
 unfolding isCookieLength
 cookie-length-back n c = rw (le-leb 4 n (c .least), le-leb n 16 (c .most), eq-eqb (n % 2) 0 (c .even))
 
-option-inside : (n : ℕ) (area : List ℕ) (i len : ℕ) → i + len ≤ n → 2 ≤ len → AllInside n (fastOpenOption area i len)
-unfolding fastOpenOption cookieAt
-option-inside n area i len h k =
-    chosen (AllInside n) (eqb (byteAt area i) 34) _ _
-    (λ _. chosen (AllInside n) (eqb (len - 2) 0) _ _ (λ _. tt)
-    (λ _. chosen (AllInside n) (isCookieLength (len - 2)) _ _ (λ e. record { fits = omega arith; size = cookie-length (len - 2) e }) (λ _. tt)))
-    (λ _. tt)
+-- what holds of none and of each option in a coding that counts holds of what is found
+module _ (P : FastOpenOption → Type 0) (absent : P Absent) (g : Codings) (area : List ℕ)
+    (each : (c : Coding) → countsCoding g c ≡ true → (i len : ℕ) → isIn c area i len ≡ true → 2 ≤ len → i + len ≤ length area → P (optionIn c i len)) where
+  first-of : (f next : FastOpenOption) → P f → P next → P (firstFastOpen f next)
+  first-of Absent next p q = q
+  first-of (Request c) next p q = p
+  first-of (Cookie c at len) next p q = p
 
-from-inside : (area : List ℕ) (i skip : ℕ) (rest : List ℕ) (found : Options) → i + length rest ≤ length area
-    → AllInside (length area) (found .fast) → AllInside (length area) (readFrom area i skip rest found .fast)
-unfolding readFrom withOption
-from-inside area i skip [] found h p = p
-from-inside area i (suc skip) (b ∷ rest) found h p = from-inside area (i + 1) skip rest found (omega arith) p
-from-inside area i zero (kind ∷ rest) found h p =
-    let Q : Options → Type 0 = λ o. AllInside (length area) (o .fast) in
-    let len = byteAt rest 0 in
-    let fits = leb 2 len && leb len (length rest + 1) in
-    let one = readFrom area (i + 1) 0 rest found in
-    let on = readFrom area (i + 1) (len - 1) rest (withOption found area i len) in
-    chosen Q (eqb kind 0) found (cond (eqb kind 1) one (cond fits on found)) (λ _. p)
-    (λ _. chosen Q (eqb kind 1) one (cond fits on found) (λ _. from-inside area (i + 1) 0 rest found (omega arith) p)
-    (λ _. chosen Q fits on found
-    (λ e.
-    let t = and-true (leb 2 len) (leb len (length rest + 1)) e in
-    let a = leb-true 2 len (t .0) in
-    let b = leb-true len (length rest + 1) (t .1) in
-    from-inside area (i + 1) (len - 1) rest (withOption found area i len) (omega arith)
-    (first-inside (length area) (found .fast) (fastOpenOption area i len) p (option-inside (length area) area i len (omega arith) a)))
-    (λ _. p)))
+  of-one : (i len : ℕ) → 2 ≤ len → i + len ≤ length area → P (fastOpenOption g area i len)
+  unfolding fastOpenOption
+  of-one i len k h =
+      chosen P (isIn New area i len) _ _ (λ e. each New refl i len e k h)
+      (λ _. chosen P (isIn Older area i len && countsCoding g Older) _ _
+      (λ e.
+      let t = and-true (isIn Older area i len) (countsCoding g Older) e in
+      each Older (t .1) i len (t .0) k h)
+      (λ _. absent))
 
-pub inside : (area : List ℕ) → AllInside (length area) (readOptions area .fast)
-unfolding readOptions
-inside area = from-inside area 0 0 area _ (omega arith) tt
+  of-rest : (i skip : ℕ) (rest : List ℕ) (found : Options) → i + length rest ≤ length area → P (found .fast) → P (readFrom g area i skip rest found .fast)
+  unfolding readFrom withOption
+  of-rest i skip [] found h p = p
+  of-rest i (suc skip) (b ∷ rest) found h p = of-rest (i + 1) skip rest found (omega arith) p
+  of-rest i zero (kind ∷ rest) found h p =
+      let Q : Options → Type 0 = λ o. P (o .fast) in
+      let len = byteAt rest 0 in
+      let fits = leb 2 len && leb len (length rest + 1) in
+      let one = readFrom g area (i + 1) 0 rest found in
+      let on = readFrom g area (i + 1) (len - 1) rest (withOption g found area i len) in
+      chosen Q (eqb kind 0) found (cond (eqb kind 1) one (cond fits on found)) (λ _. p)
+      (λ _. chosen Q (eqb kind 1) one (cond fits on found) (λ _. of-rest (i + 1) 0 rest found (omega arith) p)
+      (λ _. chosen Q fits on found
+      (λ e.
+      let t = and-true (leb 2 len) (leb len (length rest + 1)) e in
+      let a = leb-true 2 len (t .0) in
+      let b = leb-true len (length rest + 1) (t .1) in
+      of-rest (i + 1) (len - 1) rest (withOption g found area i len) (omega arith)
+      (first-of (found .fast) (fastOpenOption g area i len) p (of-one i len a (omega arith))))
+      (λ _. p)))
+
+  of-found : P (readOptions g area .fast)
+  unfolding readOptions
+  of-found = of-rest 0 0 area _ (omega arith) absent
+
+  pub of-segment : (syn : Bool) → P (ifSyn syn (readOptions g area) .fast)
+  of-segment true = of-found
+  of-segment false = absent
+
+-- an option that is in a coding has its prefix
+pub prefix-fits : (c : Coding) (area : List ℕ) (i len : ℕ) → isIn c area i len ≡ true → 2 ≤ len → prefixLength c ≤ len
+unfolding isIn
+prefix-fits New area i len e k = k
+prefix-fits Older area i len e k = leb-true 4 len (and-true (leb 4 len) _ (and-true (eqb (byteAt area i) 254) _ e .1) .0)
+
+option-inside : (c : Coding) (n i len : ℕ) → prefixLength c ≤ len → i + len ≤ n → AllInside n (optionIn c i len)
+unfolding optionIn cookieAt
+option-inside c n i len k h =
+    chosen (AllInside n) (eqb (len - prefixLength c) 0) _ _ (λ _. tt)
+    (λ _. chosen (AllInside n) (isCookieLength (len - prefixLength c)) _ _
+    (λ e. record { fits = omega arith; size = cookie-length (len - prefixLength c) e }) (λ _. tt))
+
+option-coding : (c : Coding) (g : Codings) (i len : ℕ) → countsCoding g c ≡ true → countsCoding g (codingOf (optionIn c i len)) ≡ true
+unfolding optionIn cookieAt
+option-coding c g i len k =
+    let P : FastOpenOption → Type 0 = λ f. countsCoding g (codingOf f) ≡ true in
+    chosen P (eqb (len - prefixLength c) 0) _ _ (λ _. k)
+    (λ _. chosen P (isCookieLength (len - prefixLength c)) _ _ (λ _. k) (λ _. refl))
 
 -- so it has as many bytes as its length
-pub cookie-bytes : (area : List ℕ) (at len : ℕ) → Inside (length area) at len → length (cookieBytes (Cookie at len) area) ≡ len
-cookie-bytes area at len h = length-take-le len (drop at area) (omega (arith, length-drop at area))
+pub cookie-bytes : (area : List ℕ) (c : Coding) (at len : ℕ) → Inside (length area) at len → length (cookieBytes (Cookie c at len) area) ≡ len
+cookie-bytes area c at len h = length-take-le len (drop at area) (omega (arith, length-drop at area))
 
 -- of a segment without SYN no Fast Open option counts
-pub no-syn : (seg : List ℕ) → has (byteAt seg 13) SYN ≡ false → optionsOf seg .fast ≡ Absent
+pub no-syn : (g : Codings) (seg : List ℕ) → has (byteAt seg 13) SYN ≡ false → optionsOf g seg .fast ≡ Absent
 unfolding optionsOf
-no-syn seg e = rw e
+no-syn g seg e = rw e
 
 -- of an opening those in its area do
 syn-flag : (flags : ℕ) → kindOf flags ≡ Syn → has flags SYN ≡ true
@@ -103,15 +134,19 @@ syn-flag flags e = go (has flags SYN) (has flags RST) (has flags ACK) e
     go false false true k = absurd (let z : _≡_ {A = ℕ} 0 1 = cc in omega arith)
     go false false false k = absurd (let z : _≡_ {A = ℕ} 0 1 = cc in omega arith)
 
-pub syn-options : (seg : List ℕ) → kindOf (fieldsOf seg .flags) ≡ Syn → optionsOf seg ≡ readOptions (optionArea seg)
+pub syn-options : (g : Codings) (seg : List ℕ) → kindOf (fieldsOf seg .flags) ≡ Syn → optionsOf g seg ≡ readOptions g (optionArea seg)
 unfolding optionsOf fieldsOf
-syn-options seg e = rw (syn-flag (byteAt seg 13) e)
+syn-options g seg e = rw (syn-flag (byteAt seg 13) e)
 
 -- and of any segment the cookie that counts lies in its option area
-pub inside-segment : (seg : List ℕ) → AllInside (length (optionArea seg)) (optionsOf seg .fast)
+pub inside-segment : (g : Codings) (seg : List ℕ) → AllInside (length (optionArea seg)) (optionsOf g seg .fast)
 unfolding optionsOf
-inside-segment seg = go (has (byteAt seg 13) SYN)
-  where
-    go : (b : Bool) → AllInside (length (optionArea seg)) (ifSyn b (readOptions (optionArea seg)) .fast)
-    go true = inside (optionArea seg)
-    go false = tt
+inside-segment g seg =
+    of-segment (AllInside (length (optionArea seg))) tt g (optionArea seg)
+    (λ c _ i len e k h. option-inside c (length (optionArea seg)) i len (prefix-fits c (optionArea seg) i len e k) h) (has (byteAt seg 13) SYN)
+
+-- in a coding that the setting counts
+pub coding-counts : (g : Codings) (seg : List ℕ) → countsCoding g (codingOf (optionsOf g seg .fast)) ≡ true
+unfolding optionsOf
+coding-counts g seg =
+    of-segment (λ f. countsCoding g (codingOf f) ≡ true) refl g (optionArea seg) (λ c k i len _ _ _. option-coding c g i len k) (has (byteAt seg 13) SYN)

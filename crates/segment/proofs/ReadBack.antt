@@ -11,12 +11,15 @@ use borrow.Author.Tests.{le-leb, le-ltb, ne-eqb}
 use Rattle.lists.specs.Bytes.{Bytes}
 use Rattle.segment.specs.Bytes.{byteAt, be16, be32, word, long}
 use Rattle.segment.specs.Header.{SYN, has, malformed, offsetOf, headerLength, fieldsOf, shapeOf, optionArea, payloadOf}
-use Rattle.segment.specs.Options.{nothing, mssOption, cookieAt, fastOpenOption, withOption, readFrom, readOptions, optionsOf, cookieBytes}
+use Rattle.segment.specs.Options.{nothing, mssOption, cookieAt, isIn, prefixLength, optionIn, countsCoding, fastOpenOption, withOption, readFrom, readOptions, optionsOf, cookieBytes}
 use Rattle.segment.specs.Checksum.{onesSum, complement, pseudoHeader, segmentSum, checksumRight}
-use Rattle.segment.specs.Write.{padding, mssBytes, fastOpenBytes, optionBytes, headerBytes, segmentWith, segmentBytes, optionAllowed, optionsFor, lengthFor, canWrite, written}
+use Rattle.segment.specs.Write.{padding, mssBytes, prefixBytes, fastOpenBytes, optionBytes, headerBytes, segmentWith, segmentBytes, optionAllowed, optionsFor, lengthFor, canWrite, written}
 use Rattle.segment.specs.declared.header.Header.{Header}
 use Rattle.segment.specs.declared.header.Shape.the-variants.{WellFormed}
-use Rattle.segment.specs.declared.options.Mss.the-variants.{Given}
+use Rattle.segment.specs.declared.options.Mss.the-variants.{NotGiven, Given}
+use Rattle.segment.specs.declared.options.Coding.{Coding}
+use Rattle.segment.specs.declared.options.Coding.the-variants.{New, Older}
+use Rattle.segment.specs.declared.options.Codings.{Codings}
 use Rattle.segment.specs.declared.options.FastOpenOption.{FastOpenOption}
 use Rattle.segment.specs.declared.options.FastOpenOption.the-variants.{Absent, Request, Cookie}
 use Rattle.segment.specs.declared.options.Options.{Options}
@@ -25,7 +28,7 @@ use Rattle.segment.proofs.ReadFrom.{readAt, one-step}
 use Rattle.segment.proofs.Folded.{sum-with-complement}
 use Rattle.lists.proofs.ByteLists.{bytes-append}
 use Rattle.segment.proofs.OneFamily.{family, pseudo-even, pseudo-bytes}
-use Rattle.segment.proofs.Writes.{options-plain, options-fast}
+use Rattle.segment.proofs.Writes.{prefix-size, unpadded, options-plain, options-fast}
 use Rattle.segment.proofs.Written.{Writable, writable, allowed-cookie, options-most, with-length}
 
 -- A number written and read is the number, if it fits its bytes.
@@ -40,68 +43,97 @@ back32 x h =
 -- Options
 
 -- nothing is found in padding
-padding-read : (area : List ℕ) (i n : ℕ) (found : Options) → readFrom area i 0 (replicate n 1) found ≡ found
+padding-read : (g : Codings) (area : List ℕ) (i n : ℕ) (found : Options) → readFrom g area i 0 (replicate n 1) found ≡ found
 unfolding readFrom
-padding-read area i zero found = refl
-padding-read area i (suc n) found = padding-read area (i + 1) n found
+padding-read g area i zero found = refl
+padding-read g area i (suc n) found = padding-read g area (i + 1) n found
 
 -- the options of a written area: the MSS, and nothing, a request or a cookie by its place and length
-abbrev pub fastOpenFor : Bool → List ℕ → FastOpenOption
-fastOpenFor false cookie = Absent
-fastOpenFor true [] = Request
-fastOpenFor true (b ∷ rest) = Cookie 6 (suc (length rest))
+abbrev pub fastOpenFor : Bool → Coding → List ℕ → FastOpenOption
+fastOpenFor false c cookie = Absent
+fastOpenFor true c [] = Request c
+fastOpenFor true c (b ∷ rest) = Cookie c (4 + prefixLength c) (suc (length rest))
 
-abbrev pub foundFor : ℕ → Bool → List ℕ → Options
-foundFor mss fast cookie = record { mss = Given mss; fast = fastOpenFor fast cookie }
+abbrev pub foundFor : ℕ → Bool → Coding → List ℕ → Options
+foundFor mss fast c cookie = record { mss = Given mss; fast = fastOpenFor fast c cookie }
 
-without-fast-open : (mss : ℕ) (cookie : List ℕ) → mss < 65536 → readOptions (optionBytes mss false cookie) ≡ record { mss = Given mss; fast = Absent }
-unfolding readOptions readFrom withOption mssOption fastOpenOption optionBytes
-without-fast-open mss cookie h = rw (back16 mss h)
+without-fast-open : (g : Codings) (mss : ℕ) (c : Coding) (cookie : List ℕ) → mss < 65536
+    → readOptions g (optionBytes mss false c cookie) ≡ record { mss = Given mss; fast = Absent }
+unfolding readOptions readFrom withOption mssOption fastOpenOption isIn optionBytes
+without-fast-open g mss c cookie h = rw (back16 mss h)
+
+-- a prefix begins an option of its own length and the cookie's, which is no MSS
+pub record Begins (area : List ℕ) (i len : ℕ) : Type 0 where
+  pub more : eqb (byteAt area i) 0 ≡ false
+  pub long : eqb (byteAt area i) 1 ≡ false
+  pub size : byteAt area (i + 1) ≡ len
+  pub other : mssOption area i len ≡ NotGiven
+
+prefix-begins : (mss : ℕ) (c : Coding) (cookie : List ℕ) → Begins (optionBytes mss true c cookie) 4 (length cookie + prefixLength c)
+unfolding optionBytes mssOption
+prefix-begins mss New cookie = record { more = refl; long = refl; size = refl; other = refl }
+prefix-begins mss Older cookie = record { more = refl; long = refl; size = refl; other = refl }
 
 -- with a Fast Open option the reader comes to it and then to the padding, whatever the cookie's length
-with-fast-open : (mss : ℕ) (cookie : List ℕ) → mss < 65536
-    → readOptions (optionBytes mss true cookie) ≡ record { mss = Given mss; fast = fastOpenOption (optionBytes mss true cookie) 4 (length cookie + 2) }
-unfolding readOptions withOption mssOption fastOpenOption optionBytes
-with-fast-open mss cookie h =
-    let area = optionBytes mss true cookie in
-    let pad = replicate {A = ℕ} (padding (length (mssBytes mss ++ fastOpenBytes cookie))) 1 in
-    let len = length cookie + 2 in
-    let l : length area ≡ 6 + length (cookie ++ pad) = omega arith in
-    let k : length (cookie ++ pad) ≡ length cookie + length pad = length-append cookie pad in
-    let found₁ = withOption nothing area 0 4 in
-    let found₂ = withOption found₁ area 4 len in
-    let e₁ : readAt area 0 nothing ≡ readAt area 4 found₁ =
-    one-step area 0 nothing (omega arith) ∙ rw (le-leb 4 (length area - 0) (omega arith)) in
-    let e₂ : readAt area 4 found₁ ≡ readAt area (5 + (len - 1)) found₂ =
-    one-step area 4 found₁ (omega arith) ∙ rw (le-leb 2 len (omega arith), le-leb len (length area - 4) (omega arith)) in
-    let p : 5 + (len - 1) ≡ 6 + length cookie = omega arith in
-    let d : drop (6 + length cookie) area ≡ pad = drop-at (mssBytes mss ++ fastOpenBytes cookie) pad (6 + length cookie) (omega arith) in
-    let e₃ : readAt area (5 + (len - 1)) found₂ ≡ found₂ =
-    ap (λ (j : ℕ). readAt area j found₂) p ∙ ap (λ (t : List ℕ). readFrom area (6 + length cookie) 0 t found₂) d
-    ∙ padding-read area (6 + length cookie) (padding (length (mssBytes mss ++ fastOpenBytes cookie))) found₂ in
+with-fast-open : (g : Codings) (mss : ℕ) (c : Coding) (cookie : List ℕ) → mss < 65536
+    → readOptions g (optionBytes mss true c cookie) ≡ record { mss = Given mss; fast = fastOpenOption g (optionBytes mss true c cookie) 4 (length cookie + prefixLength c) }
+unfolding readOptions withOption mssOption fastOpenOption isIn optionBytes
+with-fast-open g mss c cookie h =
+    let area = optionBytes mss true c cookie in
+    let body = mssBytes mss ++ fastOpenBytes c cookie in
+    let pad = replicate {A = ℕ} (padding (length body)) 1 in
+    let len = length cookie + prefixLength c in
+    let l : length area ≡ length body + length pad = length-append body pad in
+    let k = unpadded mss c cookie in
+    let p = prefix-size c in
+    let b = prefix-begins mss c cookie in
+    let found₁ = withOption g nothing area 0 4 in
+    let found₂ = withOption g found₁ area 4 len in
+    let e₁ : readAt g area 0 nothing ≡ readAt g area 4 found₁ =
+    one-step g area 0 nothing (omega arith) ∙ rw (le-leb 4 (length area - 0) (omega arith)) in
+    let e₂ : readAt g area 4 found₁ ≡ readAt g area (5 + (len - 1)) found₂ =
+    one-step g area 4 found₁ (omega arith) ∙ rw (b .more, b .long, b .size, le-leb 2 len (omega arith), le-leb len (length area - 4) (omega arith)) in
+    let n : 5 + (len - 1) ≡ length body = omega arith in
+    let d : drop (length body) area ≡ pad = drop-at body pad (length body) refl in
+    let e₃ : readAt g area (5 + (len - 1)) found₂ ≡ found₂ =
+    ap (λ (j : ℕ). readAt g area j found₂) n ∙ ap (λ (t : List ℕ). readFrom g area (length body) 0 t found₂) d
+    ∙ padding-read g area (length body) (padding (length body)) found₂ in
     e₁ ∙ e₂ ∙ e₃ ∙ rw (back16 mss h)
 
--- there it counts, if an option may have such a cookie
-counted : (mss : ℕ) (cookie : List ℕ) → optionAllowed true (length cookie) ≡ true → fastOpenOption (optionBytes mss true cookie) 4 (length cookie + 2) ≡ fastOpenFor true cookie
-unfolding fastOpenOption cookieAt optionBytes
-counted mss [] e = refl
-counted mss (b ∷ rest) e =
-    let n = suc (length rest) in
-    let m : n + 2 - 2 ≡ n = omega arith in
-    let z : eqb n 0 ≡ false = ne-eqb n 0 (λ q. omega arith) in
-    rw (m, z, allowed-cookie (length rest) e)
+-- there it is an option with that cookie, if one may have it
+in-coding : (c : Coding) (cookie : List ℕ) → optionAllowed true (length cookie) ≡ true → optionIn c 4 (length cookie + prefixLength c) ≡ fastOpenFor true c cookie
+unfolding optionIn cookieAt
+in-coding c cookie e =
+    let m : length cookie + prefixLength c - prefixLength c ≡ length cookie = omega arith in
+    ap (cookieAt c (4 + prefixLength c)) m ∙ go cookie e
+  where
+    go : (given : List ℕ) → optionAllowed true (length given) ≡ true → cookieAt c (4 + prefixLength c) (length given) ≡ fastOpenFor true c given
+    go [] k = refl
+    go (b ∷ rest) k =
+        let n = suc (length rest) in
+        let z : eqb n 0 ≡ false = ne-eqb n 0 (λ q. omega arith) in
+        rw (z, allowed-cookie (length rest) k)
 
--- the law: the reader finds in a written option area just what was put there
-pub options-back : (mss : ℕ) (fast : Bool) (cookie : List ℕ) → mss < 65536 → optionAllowed fast (length cookie) ≡ true
-    → readOptions (optionBytes mss fast cookie) ≡ foundFor mss fast cookie
-options-back mss false cookie h e = without-fast-open mss cookie h
-options-back mss true cookie h e = with-fast-open mss cookie h ∙ ap (λ (f : FastOpenOption). record { mss = Given mss; fast = f }) (counted mss cookie e)
+-- and it counts where its coding does
+counted : (g : Codings) (mss : ℕ) (c : Coding) (cookie : List ℕ) → countsCoding g c ≡ true
+    → fastOpenOption g (optionBytes mss true c cookie) 4 (length cookie + prefixLength c) ≡ optionIn c 4 (length cookie + prefixLength c)
+unfolding fastOpenOption isIn optionBytes
+counted g mss New cookie k = refl
+counted g mss Older cookie k = rw (k, le-leb 4 (length cookie + 4) (omega arith))
+
+-- the law: the reader finds in a written option area just what was put there, if the setting counts the coding
+pub options-back : (g : Codings) (mss : ℕ) (fast : Bool) (c : Coding) (cookie : List ℕ) → countsCoding g c ≡ true → mss < 65536
+    → optionAllowed fast (length cookie) ≡ true → readOptions g (optionBytes mss fast c cookie) ≡ foundFor mss fast c cookie
+options-back g mss false c cookie k h e = without-fast-open g mss c cookie h
+options-back g mss true c cookie k h e =
+    with-fast-open g mss c cookie h ∙ ap (λ (f : FastOpenOption). record { mss = Given mss; fast = f }) (counted g mss c cookie k ∙ in-coding c cookie e)
 
 -- and the bytes of the cookie
-cookie-back : (mss : ℕ) (cookie : List ℕ) → cookieBytes (fastOpenFor true cookie) (optionBytes mss true cookie) ≡ cookie
+cookie-back : (mss : ℕ) (c : Coding) (cookie : List ℕ) → cookieBytes (fastOpenFor true c cookie) (optionBytes mss true c cookie) ≡ cookie
 unfolding optionBytes
-cookie-back mss [] = refl
-cookie-back mss (b ∷ rest) = take-at (b ∷ rest) _ (suc (length rest)) refl
+cookie-back mss c [] = refl
+cookie-back mss New (b ∷ rest) = take-at (b ∷ rest) _ (suc (length rest)) refl
+cookie-back mss Older (b ∷ rest) = take-at (b ∷ rest) _ (suc (length rest)) refl
 
 -- Segments
 
@@ -133,30 +165,35 @@ unfolding segmentWith headerBytes
 flags-back f check options payload = refl
 
 -- the options end at a multiple of four bytes, a 32-bit word
-options-words : (mss : ℕ) (fast : Bool) (cookie : List ℕ) → length (optionBytes mss fast cookie) % 4 ≡ 0
-options-words mss false cookie = ap (λ (x : ℕ). x % 4) (options-plain mss cookie)
-options-words mss true cookie = omega (arith, options-fast mss cookie)
+options-words : (mss : ℕ) (fast : Bool) (c : Coding) (cookie : List ℕ) → length (optionBytes mss fast c cookie) % 4 ≡ 0
+options-words mss false c cookie = ap (λ (x : ℕ). x % 4) (options-plain mss c cookie)
+options-words mss true c cookie = omega (arith, options-fast mss c cookie)
 
 -- the options are bytes
 ones-bytes : (n : ℕ) → Bytes (replicate n 1)
 ones-bytes zero = tt
 ones-bytes (suc n) = (omega arith, ones-bytes n)
 
-options-bytes : (mss : ℕ) (fast : Bool) (cookie : List ℕ) → length (optionBytes mss fast cookie) ≤ 24 → Bytes cookie → Bytes (optionBytes mss fast cookie)
-unfolding optionBytes
-options-bytes mss false cookie h b = omega arith
-options-bytes mss true cookie h b =
-    let n = padding (length (mssBytes mss ++ fastOpenBytes cookie)) in
-    let l : length cookie + 2 < 256 = omega (arith, length-append cookie (replicate {A = ℕ} n 1)) in
-    (omega arith, (omega arith, (omega arith, (omega arith, (omega arith, (l, bytes-append cookie (replicate n 1) b (ones-bytes n)))))))
+prefix-bytes : (c : Coding) (n : ℕ) → n < 250 → Bytes (prefixBytes c n)
+prefix-bytes New n h = (omega arith, (omega arith, tt))
+prefix-bytes Older n h = (omega arith, (omega arith, (omega arith, (omega arith, tt))))
 
--- What is read from a segment that was written, with its checksum right; the options are those that count.
-pub record ReadBack (src dst : List ℕ) (f : Outgoing) (cookie payload seg : List ℕ) : Type 0 where
+options-bytes : (mss : ℕ) (fast : Bool) (c : Coding) (cookie : List ℕ) → length (optionBytes mss fast c cookie) ≤ 24 → Bytes cookie → Bytes (optionBytes mss fast c cookie)
+unfolding optionBytes
+options-bytes mss false c cookie h b = omega arith
+options-bytes mss true c cookie h b =
+    let n = padding (length (mssBytes mss ++ fastOpenBytes c cookie)) in
+    let l : length cookie < 250 = omega (arith, options-fast mss c cookie) in
+    let f = bytes-append (prefixBytes c (length cookie)) cookie (prefix-bytes c (length cookie) l) b in
+    (omega arith, (omega arith, (omega arith, (omega arith, bytes-append (fastOpenBytes c cookie) (replicate n 1) f (ones-bytes n)))))
+
+-- What is read from a segment that was written, with its checksum right; the options are those that count under a setting.
+pub record ReadBack (g : Codings) (src dst : List ℕ) (f : Outgoing) (cookie payload seg : List ℕ) : Type 0 where
   pub shape : shapeOf seg ≡ WellFormed (headerOf f (length (optionsFor f cookie)))
   pub flags : byteAt seg 13 ≡ f .flags
   pub area : optionArea seg ≡ optionsFor f cookie
-  pub options : optionsOf seg ≡ foundFor (f .mss) (f .fast) cookie
-  pub bytes : f .fast ≡ true → cookieBytes (optionsOf seg .fast) (optionArea seg) ≡ cookie
+  pub options : optionsOf g seg ≡ foundFor (f .mss) (f .fast) (f .coding) cookie
+  pub bytes : f .fast ≡ true → cookieBytes (optionsOf g seg .fast) (optionArea seg) ≡ cookie
   pub content : payloadOf seg ≡ payload
   pub right : checksumRight src dst seg ≡ true
   pub size : length seg ≡ lengthFor f cookie payload
@@ -174,7 +211,7 @@ module _ (src dst : List ℕ) (f : Outgoing) (cookie payload : List ℕ) (out-le
       (le-ltb (length s) (headerLength s) (omega arith))
 
   header-length : (check : ℕ) → headerLength (segmentWith f check (optionsFor f cookie) payload) ≡ 20 + length (optionsFor f cookie)
-  header-length check = omega (arith, offset-back f check (optionsFor f cookie) payload, options-words (f .mss) (f .fast) cookie)
+  header-length check = omega (arith, offset-back f check (optionsFor f cookie) payload, options-words (f .mss) (f .fast) (f .coding) cookie)
 
   area-back : (check : ℕ) → optionArea (segmentWith f check (optionsFor f cookie) payload) ≡ optionsFor f cookie
   unfolding optionArea segmentWith headerBytes
@@ -198,7 +235,7 @@ module _ (src dst : List ℕ) (f : Outgoing) (cookie payload : List ℕ) (out-le
 
   before-bytes : f .flags < 256 → Bytes before
   unfolding before
-  before-bytes h = omega (arith, options-most (f .mss) (f .fast) cookie (w .options))
+  before-bytes h = omega (arith, options-most (f .mss) (f .fast) (f .coding) cookie (w .options))
 
   -- the sum over a segment with a checksum, the field set apart
   sum-apart : (check : ℕ) → segmentSum src dst (segmentWith f check (optionsFor f cookie) payload)
@@ -221,27 +258,27 @@ module _ (src dst : List ℕ) (f : Outgoing) (cookie payload : List ℕ) (out-le
       ∙ ap (λ (x : ℕ). onesSum 0 ((p ++ before) ++ (be16 (complement x) ++ (0 ∷ 0 ∷ (o ++ payload))))) (sum-apart 0)
       ∙ sum-with-complement (p ++ before) (0 ∷ 0 ∷ (o ++ payload)) v
       (bytes-append p before (pseudo-bytes src dst n bs bd) (before-bytes hf))
-      (omega arith, (omega arith, bytes-append o payload (options-bytes (f .mss) (f .fast) cookie (options-most (f .mss) (f .fast) cookie (w .options)) bc) bp))
+      (omega arith, (omega arith, bytes-append o payload (options-bytes (f .mss) (f .fast) (f .coding) cookie (options-most (f .mss) (f .fast) (f .coding) cookie (w .options)) bc) bp))
 
 -- its options count as they were put there, if it has the SYN flag
-options-counted : (f : Outgoing) (cookie seg : List ℕ) → byteAt seg 13 ≡ f .flags → optionArea seg ≡ optionsFor f cookie
-    → f .mss < 65536 → optionAllowed (f .fast) (length cookie) ≡ true → has (f .flags) SYN ≡ true → optionsOf seg ≡ foundFor (f .mss) (f .fast) cookie
+options-counted : (g : Codings) (f : Outgoing) (cookie seg : List ℕ) → countsCoding g (f .coding) ≡ true → byteAt seg 13 ≡ f .flags → optionArea seg ≡ optionsFor f cookie
+    → f .mss < 65536 → optionAllowed (f .fast) (length cookie) ≡ true → has (f .flags) SYN ≡ true → optionsOf g seg ≡ foundFor (f .mss) (f .fast) (f .coding) cookie
 unfolding optionsOf
-options-counted f cookie seg flags area h s e = rw (flags, e, area) (options-back (f .mss) (f .fast) cookie h s)
+options-counted g f cookie seg k flags area h s e = rw (flags, e, area) (options-back g (f .mss) (f .fast) (f .coding) cookie k h s)
 
-cookie-counted : (f : Outgoing) (cookie seg : List ℕ) → optionArea seg ≡ optionsFor f cookie → optionsOf seg ≡ foundFor (f .mss) (f .fast) cookie
-    → f .fast ≡ true → cookieBytes (optionsOf seg .fast) (optionArea seg) ≡ cookie
-cookie-counted f cookie seg area options e =
+cookie-counted : (g : Codings) (f : Outgoing) (cookie seg : List ℕ) → optionArea seg ≡ optionsFor f cookie → optionsOf g seg ≡ foundFor (f .mss) (f .fast) (f .coding) cookie
+    → f .fast ≡ true → cookieBytes (optionsOf g seg .fast) (optionArea seg) ≡ cookie
+cookie-counted g f cookie seg area options e =
     ap₂ (λ (found : Options) (bytes : List ℕ). cookieBytes (found .fast) bytes) options area
-    ∙ ap (λ (t : Bool). cookieBytes (fastOpenFor t cookie) (optionBytes (f .mss) t cookie)) e
-    ∙ cookie-back (f .mss) cookie
+    ∙ ap (λ (t : Bool). cookieBytes (fastOpenFor t (f .coding) cookie) (optionBytes (f .mss) t (f .coding) cookie)) e
+    ∙ cookie-back (f .mss) (f .coding) cookie
 
 -- the law: what is read from a segment with SYN that was written is what was written, and its checksum is right
-pub read-back : (src dst : List ℕ) (f : Outgoing) (cookie payload : List ℕ) (out-len : ℕ) → canWrite src dst f cookie payload out-len ≡ true
-    → has (f .flags) SYN ≡ true → Fits f → Bytes src → Bytes dst → Bytes cookie → Bytes payload
-    → ReadBack src dst f cookie payload (written src dst f cookie payload out-len)
+pub read-back : (g : Codings) (src dst : List ℕ) (f : Outgoing) (cookie payload : List ℕ) (out-len : ℕ) → countsCoding g (f .coding) ≡ true
+    → canWrite src dst f cookie payload out-len ≡ true → has (f .flags) SYN ≡ true → Fits f → Bytes src → Bytes dst → Bytes cookie → Bytes payload
+    → ReadBack g src dst f cookie payload (written src dst f cookie payload out-len)
 unfolding written segmentBytes shapeOf checksumRight
-read-back src dst f cookie payload out-len can syn h bs bd bc bp =
+read-back g src dst f cookie payload out-len counts can syn h bs bd bc bp =
     let w = writable src dst f cookie payload out-len can in
     let o = optionsFor f cookie in
     let check = complement (segmentSum src dst (segmentWith f 0 o payload)) in
@@ -249,14 +286,14 @@ read-back src dst f cookie payload out-len can syn h bs bd bc bp =
     let e : written src dst f cookie payload out-len ≡ seg = rw can in
     let flags = flags-back f check o payload in
     let area = area-back src dst f cookie payload out-len w check in
-    let options = options-counted f cookie seg flags area (h .mss) (w .options) syn in
-    subst (ReadBack src dst f cookie payload) (sym e)
+    let options = options-counted g f cookie seg counts flags area (h .mss) (w .options) syn in
+    subst (ReadBack g src dst f cookie payload) (sym e)
     (record {
       shape = rw (well-formed src dst f cookie payload out-len w check, fields-back f check o payload h);
       flags = flags;
       area = area;
       options = options;
-      bytes = cookie-counted f cookie seg area options;
+      bytes = cookie-counted g f cookie seg area options;
       content = payload-back src dst f cookie payload out-len w check;
       right = rw (w .one, sum-full src dst f cookie payload out-len w bs bd bc bp (h .flags));
       size = with-length f check o payload;

@@ -7,9 +7,12 @@ use native.Mathlib.Omega.{arith}
 use lib.ListN.{length, take, drop, replicate, length-append, length-replicate}
 use lib.Seq.{take-at, drop-at, drop-drop, length-take-le}
 use borrow.Rule.Slice.PartMut.{putMid}
+use Rattle.segment.specs.declared.options.Coding.{Coding}
+use Rattle.segment.specs.declared.options.Coding.the-variants.{New, Older}
 use Rattle.segment.specs.declared.write.Outgoing.{Outgoing}
+use Rattle.segment.specs.Options.{prefixLength}
 use Rattle.segment.specs.Checksum.{onesSum, complement}
-use Rattle.segment.specs.Write.{padding, padded, mssBytes, fastOpenBytes, optionBytes, optionLength, headerBytes}
+use Rattle.segment.specs.Write.{padding, padded, mssBytes, prefixBytes, fastOpenBytes, optionBytes, optionLength, headerBytes}
 use Rattle.lists.specs.Bytes.{overwrite}
 use Rattle.lists.proofs.Lent.{lent, lent-out, copied}
 use Rattle.segment.proofs.Total.{sum-append}
@@ -38,48 +41,65 @@ padded-out o a out end at n w k e =
     (more o a (replicate (padding at) 1) out end at n w (k ∙ ap (λ (x : ℕ). at + x) (sym l))
     (e ∙ ap (λ (x : ℕ). take at out ++ (replicate (padding at) 1 ++ drop (at + x) out)) (sym l)))
 
+-- the prefix of a coding: two bytes or four
+pub prefix-length : (c : Coding) (n : ℕ) → length (prefixBytes c n) ≡ prefixLength c
+prefix-length New n = refl
+prefix-length Older n = refl
+
+pub prefix-size : (c : Coding) → (2 ≤ prefixLength c) × (prefixLength c ≤ 4)
+prefix-size New = (omega arith, omega arith)
+prefix-size Older = (omega arith, omega arith)
+
 -- the options' length
-pub options-plain : (mss : ℕ) (ck : List ℕ) → length (optionBytes mss false ck) ≡ 4
+pub options-plain : (mss : ℕ) (c : Coding) (ck : List ℕ) → length (optionBytes mss false c ck) ≡ 4
 unfolding optionBytes
-options-plain mss ck = refl
+options-plain mss c ck = refl
 
-pub options-fast : (mss : ℕ) (ck : List ℕ) → length (optionBytes mss true ck) ≡ 6 + length ck + padding (6 + length ck)
+pub unpadded : (mss : ℕ) (c : Coding) (ck : List ℕ) → length (mssBytes mss ++ fastOpenBytes c ck) ≡ 4 + prefixLength c + length ck
+unpadded mss c ck = omega (arith, length-append (prefixBytes c (length ck)) ck, prefix-length c (length ck))
+
+pub options-fast : (mss : ℕ) (c : Coding) (ck : List ℕ) → length (optionBytes mss true c ck) ≡ 4 + prefixLength c + length ck + padding (4 + prefixLength c + length ck)
 unfolding optionBytes
-options-fast mss ck =
-    let n = padding (length (mssBytes mss ++ fastOpenBytes ck)) in
-    omega (arith, length-append ck (replicate {A = ℕ} n 1), length-replicate {A = ℕ} n 1)
+options-fast mss c ck =
+    let a = mssBytes mss ++ fastOpenBytes c ck in
+    let n = padding (length a) in
+    length-append a (replicate {A = ℕ} n 1) ∙ rw (length-replicate {A = ℕ} n 1, unpadded mss c ck)
 
--- by the cookie's length, on which alone it depends
-pub length-plain : (n : ℕ) → optionLength false n ≡ 4
+-- by the cookie's length, on which, and on the coding, it depends
+pub length-plain : (c : Coding) (n : ℕ) → optionLength false c n ≡ 4
 unfolding optionLength
-length-plain n = options-plain 0 (replicate n 0)
+length-plain c n = options-plain 0 c (replicate n 0)
 
-pub length-fast : (n : ℕ) → optionLength true n ≡ 6 + n + padding (6 + n)
+pub length-fast : (c : Coding) (n : ℕ) → optionLength true c n ≡ 4 + prefixLength c + n + padding (4 + prefixLength c + n)
 unfolding optionLength
-length-fast n = options-fast 0 (replicate n 0) ∙ rw (length-replicate {A = ℕ} n 0)
+length-fast c n = options-fast 0 c (replicate n 0) ∙ rw (length-replicate {A = ℕ} n 0)
 
-pub options-length : (mss : ℕ) (fast : Bool) (ck : List ℕ) → length (optionBytes mss fast ck) ≡ optionLength fast (length ck)
-options-length mss false ck = options-plain mss ck ∙ sym (length-plain (length ck))
-options-length mss true ck = options-fast mss ck ∙ sym (length-fast (length ck))
+pub options-length : (mss : ℕ) (fast : Bool) (c : Coding) (ck : List ℕ) → length (optionBytes mss fast c ck) ≡ optionLength fast c (length ck)
+options-length mss false c ck = options-plain mss c ck ∙ sym (length-plain c (length ck))
+options-length mss true c ck = options-fast mss c ck ∙ sym (length-fast c (length ck))
 
-pub length-least : (fast : Bool) (n : ℕ) → 4 ≤ optionLength fast n
-length-least false n = omega (arith, length-plain n)
-length-least true n = omega (arith, length-fast n)
+pub length-least : (fast : Bool) (c : Coding) (n : ℕ) → 4 ≤ optionLength fast c n
+length-least false c n = omega (arith, length-plain c n)
+length-least true c n = omega (arith, length-fast c n)
 
 -- of a request, and with a cookie of 4, 6, 8, 10, 12, 14 and 16 bytes
-pub option-lengths : map (optionLength true) (0 ∷ 4 ∷ 6 ∷ 8 ∷ 10 ∷ 12 ∷ 14 ∷ 16 ∷ []) ≡ 8 ∷ 12 ∷ 12 ∷ 16 ∷ 16 ∷ 20 ∷ 20 ∷ 24 ∷ []
+pub option-lengths : map (optionLength true New) (0 ∷ 4 ∷ 6 ∷ 8 ∷ 10 ∷ 12 ∷ 14 ∷ 16 ∷ []) ≡ 8 ∷ 12 ∷ 12 ∷ 16 ∷ 16 ∷ 20 ∷ 20 ∷ 24 ∷ []
 unfolding optionLength optionBytes
 option-lengths = refl
 
--- an output that is long enough for them is so for each of their parts
-pub cookie-fits : (mss : ℕ) (fast : Bool) (ck : List ℕ) (n : ℕ) → not fast ≡ false → length (optionBytes mss fast ck) ≤ n → 6 + length ck ≤ n
-cookie-fits mss true ck n e h = omega (arith, options-fast mss ck)
-cookie-fits mss false ck n e h = absurd (true≢false e)
+pub older-lengths : map (optionLength true Older) (0 ∷ 4 ∷ 6 ∷ 8 ∷ 10 ∷ 12 ∷ 14 ∷ 16 ∷ []) ≡ 8 ∷ 12 ∷ 16 ∷ 16 ∷ 20 ∷ 20 ∷ 24 ∷ 24 ∷ []
+unfolding optionLength optionBytes
+older-lengths = refl
 
-pub padding-fits : (mss : ℕ) (fast : Bool) (ck : List ℕ) (n at : ℕ) → not fast ≡ false → length (optionBytes mss fast ck) ≤ n → at ≡ 6 + length ck
-    → at + padding at ≤ n
-padding-fits mss true ck n at e h k = subst (λ (x : ℕ). x + padding x ≤ n) (sym k) (omega (arith, options-fast mss ck))
-padding-fits mss false ck n at e h k = absurd (true≢false e)
+-- an output that is long enough for them is so for each of their parts
+pub cookie-fits : (mss : ℕ) (fast : Bool) (c : Coding) (ck : List ℕ) (n : ℕ) → not fast ≡ false → length (optionBytes mss fast c ck) ≤ n → 4 + prefixLength c + length ck ≤ n
+cookie-fits mss true c ck n e h = omega (arith, options-fast mss c ck)
+cookie-fits mss false c ck n e h = absurd (true≢false e)
+
+pub padding-fits : (mss : ℕ) (fast : Bool) (c : Coding) (ck : List ℕ) (n at : ℕ) → not fast ≡ false → length (optionBytes mss fast c ck) ≤ n
+    → at ≡ 4 + prefixLength c + length ck → at + padding at ≤ n
+padding-fits mss true c ck n at e h k = subst (λ (x : ℕ). x + padding x ≤ n) (sym k) (omega (arith, options-fast mss c ck))
+padding-fits mss false c ck n at e h k = absurd (true≢false e)
 
 -- up to three bytes of kind 1
 pub ones : (n : ℕ) → n < 4 → take {A = ℕ} n (1 ∷ 1 ∷ 1 ∷ []) ≡ replicate n 1
@@ -90,17 +110,17 @@ ones (suc (suc (suc zero))) h = refl
 ones (suc (suc (suc (suc n)))) h = absurd (omega arith)
 
 -- what the option writer leaves, without a Fast Open option and with one
-pub wrote-plain : (o : List ℕ) (mss : ℕ) (fast : Bool) (ck : List ℕ) (n : ℕ) (end : List ℕ) → not fast ≡ true
-    → Wrote o (mssBytes mss) n end → Wrote o (optionBytes mss fast ck) n end
+pub wrote-plain : (o : List ℕ) (mss : ℕ) (fast : Bool) (c : Coding) (ck : List ℕ) (n : ℕ) (end : List ℕ) → not fast ≡ true
+    → Wrote o (mssBytes mss) n end → Wrote o (optionBytes mss fast c ck) n end
 unfolding optionBytes
-wrote-plain o mss true ck n end e w = absurd (true≢false (sym e))
-wrote-plain o mss false ck n end e w = w
+wrote-plain o mss true c ck n end e w = absurd (true≢false (sym e))
+wrote-plain o mss false c ck n end e w = w
 
-pub wrote-fast : (o : List ℕ) (mss : ℕ) (fast : Bool) (ck : List ℕ) (n : ℕ) (end : List ℕ) → not fast ≡ false
-    → Wrote o (padded (mssBytes mss ++ fastOpenBytes ck)) n end → Wrote o (optionBytes mss fast ck) n end
+pub wrote-fast : (o : List ℕ) (mss : ℕ) (fast : Bool) (c : Coding) (ck : List ℕ) (n : ℕ) (end : List ℕ) → not fast ≡ false
+    → Wrote o (padded (mssBytes mss ++ fastOpenBytes c ck)) n end → Wrote o (optionBytes mss fast c ck) n end
 unfolding optionBytes
-wrote-fast o mss true ck n end e w = w
-wrote-fast o mss false ck n end e w = absurd (true≢false e)
+wrote-fast o mss true c ck n end e w = w
+wrote-fast o mss false c ck n end e w = absurd (true≢false e)
 
 -- a write's count and its output, as the contracts have them
 pub overwrote : (o a : List ℕ) (n : ℕ) (end : List ℕ) → Wrote o a n end → (n ≡ length a) × (end ≡ overwrite a o)

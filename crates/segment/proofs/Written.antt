@@ -8,14 +8,15 @@ use lib.ListN.{length, take, drop, length-append}
 use lib.Seq.{take-at, drop-at, length-take-le}
 use lib.Dec.{leb, eqb}
 use borrow.Author.Tests.{leb-true, eq-eqb, ne-eqb}
+use Rattle.segment.specs.declared.options.Coding.{Coding}
 use Rattle.segment.specs.declared.write.Outgoing.{Outgoing}
-use Rattle.segment.specs.Options.{isCookieLength}
+use Rattle.segment.specs.Options.{isCookieLength, prefixLength}
 use Rattle.segment.specs.Checksum.{onesSum, complement, oneFamily, pseudoHeader, segmentSum}
 use Rattle.segment.specs.Write.{headerBytes, segmentWith, segmentBytes, optionAllowed, optionBytes, optionLength, optionsFor, lengthFor, canWrite, written}
 use Rattle.lists.specs.Bytes.{overwrite}
 use Rattle.lists.proofs.Bools.{and-true}
 use Rattle.segment.proofs.Cookie.{cookie-length}
-use Rattle.segment.proofs.Writes.{length-plain, length-fast, length-least, options-length}
+use Rattle.segment.proofs.Writes.{prefix-size, length-plain, length-fast, length-least, options-length}
 
 -- what `canWrite` tests
 pub record Writable (src dst : List ℕ) (f : Outgoing) (cookie payload : List ℕ) (out-len : ℕ) : Type 0 where
@@ -45,52 +46,53 @@ allowed-most : (n : ℕ) → optionAllowed true n ≡ true → n ≤ 16
 allowed-most zero e = omega arith
 allowed-most (suc n) e = cookie-length (suc n) (allowed-cookie n e) .most
 
-pub length-most : (fast : Bool) (n : ℕ) → optionAllowed fast n ≡ true → optionLength fast n ≤ 24
-length-most false n e = omega (arith, length-plain n)
-length-most true n e = omega (arith, length-fast n, allowed-most n e)
+pub length-most : (fast : Bool) (c : Coding) (n : ℕ) → optionAllowed fast n ≡ true → optionLength fast c n ≤ 24
+length-most false c n e = omega (arith, length-plain c n)
+length-most true c n e = omega (arith, length-fast c n, allowed-most n e, prefix-size c)
 
-pub options-most : (mss : ℕ) (fast : Bool) (cookie : List ℕ) → optionAllowed fast (length cookie) ≡ true → length (optionBytes mss fast cookie) ≤ 24
-options-most mss fast cookie e = omega (arith, options-length mss fast cookie, length-most fast (length cookie) e)
+pub options-most : (mss : ℕ) (fast : Bool) (c : Coding) (cookie : List ℕ) → optionAllowed fast (length cookie) ≡ true → length (optionBytes mss fast c cookie) ≤ 24
+options-most mss fast c cookie e = omega (arith, options-length mss fast c cookie, length-most fast c (length cookie) e)
 
 -- The length of the options, or 0: without a Fast Open option, with a request, with a cookie, and with what is none.
-abbrev allowedLength : Bool → ℕ → ℕ
-allowedLength fast n = cond (optionAllowed fast n) (optionLength fast n) 0
+abbrev allowedLength : Bool → Coding → ℕ → ℕ
+allowedLength fast c n = cond (optionAllowed fast n) (optionLength fast c n) 0
 
-pub without-option : (fast : Bool) (n : ℕ) → not fast ≡ true → 4 ≡ allowedLength fast n
+pub without-option : (fast : Bool) (c : Coding) (n : ℕ) → not fast ≡ true → 4 ≡ allowedLength fast c n
 unfolding optionAllowed
-without-option true n e = absurd (true≢false (sym e))
-without-option false n e = sym (length-plain n)
+without-option true c n e = absurd (true≢false (sym e))
+without-option false c n e = sym (length-plain c n)
 
-pub with-request : (fast : Bool) (n : ℕ) → not fast ≡ false → n ≡ 0 → 8 ≡ allowedLength fast n
+pub with-request : (fast : Bool) (c : Coding) (n : ℕ) → not fast ≡ false → n ≡ 0 → 8 ≡ allowedLength fast c n
 unfolding optionAllowed
-with-request true n e z = rw (eq-eqb n 0 z) (omega (arith, length-fast n))
-with-request false n e z = absurd (true≢false e)
+with-request true c n e z = rw (eq-eqb n 0 z) (omega (arith, length-fast c n, prefix-size c))
+with-request false c n e z = absurd (true≢false e)
 
-pub with-cookie : (fast : Bool) (n : ℕ) → not fast ≡ false → (n ≡ 0 → ⊥) → isCookieLength n ≡ true → 4 + (n + 5) / 4 * 4 ≡ allowedLength fast n
+pub with-cookie : (fast : Bool) (c : Coding) (n p : ℕ) → not fast ≡ false → (n ≡ 0 → ⊥) → isCookieLength n ≡ true → p ≡ prefixLength c
+    → 4 + (n + p + 3) / 4 * 4 ≡ allowedLength fast c n
 unfolding optionAllowed
-with-cookie true n e z k = rw (ne-eqb n 0 z, k) (omega (arith, length-fast n))
-with-cookie false n e z k = absurd (true≢false e)
+with-cookie true c n p e z k q = rw (ne-eqb n 0 z, k) (omega (arith, length-fast c n))
+with-cookie false c n p e z k q = absurd (true≢false e)
 
-pub with-no-cookie : (fast : Bool) (n : ℕ) → not fast ≡ false → (n ≡ 0 → ⊥) → isCookieLength n ≡ false → 0 ≡ allowedLength fast n
+pub with-no-cookie : (fast : Bool) (c : Coding) (n : ℕ) → not fast ≡ false → (n ≡ 0 → ⊥) → isCookieLength n ≡ false → 0 ≡ allowedLength fast c n
 unfolding optionAllowed
-with-no-cookie true n e z k = rw (ne-eqb n 0 z, k)
-with-no-cookie false n e z k = absurd (true≢false e)
+with-no-cookie true c n e z k = rw (ne-eqb n 0 z, k)
+with-no-cookie false c n e z k = absurd (true≢false e)
 
 -- what that length tells: 0 that the options are not allowed, any other that they are
-pub not-allowed : (fast : Bool) (n m : ℕ) → m ≡ allowedLength fast n → m ≡ 0 → optionAllowed fast n ≡ false
-not-allowed fast n m e z = go (optionAllowed fast n) (sym e ∙ z)
+pub not-allowed : (fast : Bool) (c : Coding) (n m : ℕ) → m ≡ allowedLength fast c n → m ≡ 0 → optionAllowed fast n ≡ false
+not-allowed fast c n m e z = go (optionAllowed fast n) (sym e ∙ z)
   where
-    go : (b : Bool) → cond b (optionLength fast n) 0 ≡ 0 → b ≡ false
-    go true q = absurd (omega (arith, length-least fast n))
+    go : (b : Bool) → cond b (optionLength fast c n) 0 ≡ 0 → b ≡ false
+    go true q = absurd (omega (arith, length-least fast c n))
     go false q = refl
 
-pub is-allowed : (mss : ℕ) (fast : Bool) (cookie : List ℕ) (m : ℕ) → m ≡ allowedLength fast (length cookie) → (m ≡ 0 → ⊥)
-    → (optionAllowed fast (length cookie) ≡ true) × (m ≡ length (optionBytes mss fast cookie))
-is-allowed mss fast cookie m e z = go (optionAllowed fast (length cookie)) refl e
+pub is-allowed : (mss : ℕ) (fast : Bool) (c : Coding) (cookie : List ℕ) (m : ℕ) → m ≡ allowedLength fast c (length cookie) → (m ≡ 0 → ⊥)
+    → (optionAllowed fast (length cookie) ≡ true) × (m ≡ length (optionBytes mss fast c cookie))
+is-allowed mss fast c cookie m e z = go (optionAllowed fast (length cookie)) refl e
   where
-    go : (b : Bool) → optionAllowed fast (length cookie) ≡ b → m ≡ cond b (optionLength fast (length cookie)) 0
-        → (optionAllowed fast (length cookie) ≡ true) × (m ≡ length (optionBytes mss fast cookie))
-    go true q k = (q, k ∙ sym (options-length mss fast cookie))
+    go : (b : Bool) → optionAllowed fast (length cookie) ≡ b → m ≡ cond b (optionLength fast c (length cookie)) 0
+        → (optionAllowed fast (length cookie) ≡ true) × (m ≡ length (optionBytes mss fast c cookie))
+    go true q k = (q, k ∙ sym (options-length mss fast c cookie))
     go false q k = absurd (z k)
 
 -- the same of a segment's length: 0 that it cannot be written, any other that it can
@@ -115,7 +117,7 @@ allowed src dst f cookie payload out-len n e z = go (canWrite src dst f cookie p
     go : (b : Bool) → canWrite src dst f cookie payload out-len ≡ b → n ≡ cond b (lengthFor f cookie payload) 0 → Allowed src dst f cookie payload out-len n
     go true q k =
         let w = writable src dst f cookie payload out-len q in
-        record { can = q; facts = w; area = options-most (f .mss) (f .fast) cookie (w .options); whole = k }
+        record { can = q; facts = w; area = options-most (f .mss) (f .fast) (f .coding) cookie (w .options); whole = k }
     go false q k = absurd (z k)
 
 -- nothing is written

@@ -7,6 +7,8 @@ use lib.ListN.{length}
 use Rattle.segment.specs.Bytes.{word}
 use Rattle.segment.specs.Options.{readOptions, cookieBytes}
 use Rattle.segment.specs.declared.options.Mss.the-variants.{NotGiven, Given}
+use Rattle.segment.specs.declared.options.Coding.the-variants.{New}
+use Rattle.segment.specs.declared.options.Codings.{Codings}
 use Rattle.segment.specs.declared.options.FastOpenOption.{FastOpenOption}
 use Rattle.segment.specs.declared.options.FastOpenOption.the-variants.{Absent, Cookie}
 use Rattle.segment.specs.declared.options.Options.{Options}
@@ -20,9 +22,9 @@ abbrev pub onlyMss : ℕ → Options
 onlyMss mss = record { mss = Given mss; fast = Absent }
 
 -- an area in which just a cookie of these bytes is found, at byte 2
-abbrev pub FoundCookie : List ℕ → List ℕ → Type 0
-FoundCookie cookie area = (readOptions area ≡ onlyFastOpen (Cookie 2 (length cookie))) × (cookieBytes (readOptions area .fast) area ≡ cookie)
+abbrev pub FoundCookie : Codings → List ℕ → List ℕ → Type 0
+FoundCookie g cookie area = (readOptions g area ≡ onlyFastOpen (Cookie New 2 (length cookie))) × (cookieBytes (readOptions g area .fast) area ≡ cookie)
 
 -- an MSS option before these bytes, and nothing of them found
-abbrev pub EarlierStands : List ℕ → Type 0
-EarlierStands bytes = (a b : ℕ) → readOptions (2 ∷ 4 ∷ a ∷ b ∷ bytes) ≡ onlyMss (word a b)
+abbrev pub EarlierStands : Codings → List ℕ → Type 0
+EarlierStands g bytes = (a b : ℕ) → readOptions g (2 ∷ 4 ∷ a ∷ b ∷ bytes) ≡ onlyMss (word a b)

@@ -1,5 +1,5 @@
--- TCP segments, as RFC 9293, RFC 1071, RFC 7413 and document 01 define them. In reading order: the refusals; numbers as bytes; the header, its kind and
--- its parts; the options; the checksum, and its total as the code has it; sequence numbers; and the segments that are written.
+-- TCP segments, as RFC 9293, RFC 1071, RFC 7413 and documents 01 and 02 define them. In reading order: the refusals; numbers as bytes; the header, its kind and
+-- its parts; the options; the checksum, and its total as the code has it; sequence numbers; the segments that are written; and samples of the older coding.
 pub mod Refusal
 pub mod Bytes
 pub mod Header
@@ -9,3 +9,4 @@ pub mod Checksum
 pub mod Totals
 pub mod Sequence
 pub mod Write
+pub mod Older

@@ -1,4 +1,4 @@
--- RFC 9293, 3.1 and 3.2, RFC 7413, 4.1.1, and document 01, "Options": what reading an option area finds.
+-- RFC 9293, 3.1 and 3.2, RFC 7413, 4.1.1 and 9, document 01, "Options", and document 02, Item 4: what reading an option area finds.
 -- Assumes nothing.
 use Prim.Native.Nat.{ℕ, zero, suc, _+_, _-_, _%_}
 use mathlib.Core.List.{List, [], _∷_}
@@ -9,6 +9,10 @@ use Rattle.segment.specs.Bytes.{byteAt, wordAt}
 use Rattle.segment.specs.Header.{optionArea, has, SYN}
 use Rattle.segment.specs.declared.options.Mss.{Mss}
 use Rattle.segment.specs.declared.options.Mss.the-variants.{NotGiven, Given}
+use Rattle.segment.specs.declared.options.Coding.{Coding}
+use Rattle.segment.specs.declared.options.Coding.the-variants.{New, Older}
+use Rattle.segment.specs.declared.options.Codings.{Codings}
+use Rattle.segment.specs.declared.options.Codings.the-variants.{NewOnly, Both}
 use Rattle.segment.specs.declared.options.FastOpenOption.{FastOpenOption}
 use Rattle.segment.specs.declared.options.FastOpenOption.the-variants.{Absent, Request, Cookie}
 use Rattle.segment.specs.declared.options.Options.{Options}
@@ -29,12 +33,39 @@ unfoldable pub isCookieLength : ℕ → Bool
 isCookieLength n = leb 4 n && (leb n 16 && eqb (n % 2) 0)
 
 -- an option with n bytes of cookie at a place: an empty cookie asks for one, and with any other length the option is skipped
-unfoldable pub cookieAt : ℕ → ℕ → FastOpenOption
-cookieAt at n = cond (eqb n 0) Request (cond (isCookieLength n) (Cookie at n) Absent)
+unfoldable pub cookieAt : Coding → ℕ → ℕ → FastOpenOption
+cookieAt c at n = cond (eqb n 0) (Request c) (cond (isCookieLength n) (Cookie c at n) Absent)
 
--- kind 34, of at least 2 bytes, has its cookie after two of them: it counts with length 2, or an even length of 6 to 18
-unfoldable pub fastOpenOption : List ℕ → ℕ → ℕ → FastOpenOption
-fastOpenOption area i len = cond (eqb (byteAt area i) 34) (cookieAt (i + 2) (len - 2)) Absent
+-- Two codings: kind 34, and the older one, kind 254 with F9 89 behind its length (RFC 7413, 9). Other options of kind 254 are other experiments'.
+unfoldable pub isIn : Coding → List ℕ → ℕ → ℕ → Bool
+isIn New area i len = eqb (byteAt area i) 34
+isIn Older area i len = eqb (byteAt area i) 254 && (leb 4 len && (eqb (byteAt area (i + 2)) 0xF9 && eqb (byteAt area (i + 3)) 0x89))
+
+-- how many bytes stand before the cookie
+abbrev pub prefixLength : Coding → ℕ
+prefixLength New = 2
+prefixLength Older = 4
+
+-- So an option of len bytes counts with the prefix alone, which is length 2 or 4, and with an even 6 to 18, or 8 to 20.
+unfoldable pub optionIn : Coding → ℕ → ℕ → FastOpenOption
+optionIn c i len = cookieAt c (i + prefixLength c) (len - prefixLength c)
+
+-- the codings that a setting counts
+abbrev pub countsCoding : Codings → Coding → Bool
+countsCoding g New = true
+countsCoding NewOnly Older = false
+countsCoding Both Older = true
+
+-- the setting, from whether the older one counts too
+abbrev pub codingsOf : Bool → Codings
+codingsOf false = NewOnly
+codingsOf true = Both
+
+-- the option of len bytes, at least 2, at i, if it is in a coding that counts; the new one always does
+unfoldable pub fastOpenOption : Codings → List ℕ → ℕ → ℕ → FastOpenOption
+fastOpenOption g area i len =
+    cond (isIn New area i len) (optionIn New i len)
+    (cond (isIn Older area i len && countsCoding g Older) (optionIn Older i len) Absent)
 
 -- of several that count the first is used
 abbrev pub firstMss : Mss → Mss → Mss
@@ -43,18 +74,18 @@ firstMss (Given v) next = Given v
 
 abbrev pub firstFastOpen : FastOpenOption → FastOpenOption → FastOpenOption
 firstFastOpen Absent next = next
-firstFastOpen Request next = Request
-firstFastOpen (Cookie at len) next = Cookie at len
+firstFastOpen (Request c) next = Request c
+firstFastOpen (Cookie c at len) next = Cookie c at len
 
 abbrev pub nothing : Options
 nothing = record { mss = NotGiven; fast = Absent }
 
 -- what is found so far, and the option of len bytes at i
-unfoldable pub withOption : Options → List ℕ → ℕ → ℕ → Options
-withOption found area i len =
+unfoldable pub withOption : Codings → Options → List ℕ → ℕ → ℕ → Options
+withOption g found area i len =
     record {
       mss = firstMss (found .mss) (mssOption area i len);
-      fast = firstFastOpen (found .fast) (fastOpenOption area i len);
+      fast = firstFastOpen (found .fast) (fastOpenOption g area i len);
     }
 
 -- One step, at a kind byte: kind 0 ends the list, kind 1 is one byte, and any other kind has a length of at least 2 that fits the bytes left, or the reading ends.
@@ -63,28 +94,34 @@ byKind kind len left end one on =
     cond (eqb kind 0) end (cond (eqb kind 1) one (cond (leb 2 len && leb len left) on end))
 
 -- Reading the area from place i on, where `rest` stands. `skip` bytes of it belong to the option before.
-unfoldable pub readFrom : List ℕ → ℕ → ℕ → List ℕ → Options → Options
-readFrom area i skip [] found = found
-readFrom area i (suc skip) (b ∷ rest) found = readFrom area (i + 1) skip rest found
-readFrom area i zero (kind ∷ rest) found =
+unfoldable pub readFrom : Codings → List ℕ → ℕ → ℕ → List ℕ → Options → Options
+readFrom g area i skip [] found = found
+readFrom g area i (suc skip) (b ∷ rest) found = readFrom g area (i + 1) skip rest found
+readFrom g area i zero (kind ∷ rest) found =
     byKind kind (byteAt rest 0) (length rest + 1) found
-    (readFrom area (i + 1) 0 rest found)
-    (readFrom area (i + 1) (byteAt rest 0 - 1) rest (withOption found area i (byteAt rest 0)))
+    (readFrom g area (i + 1) 0 rest found)
+    (readFrom g area (i + 1) (byteAt rest 0 - 1) rest (withOption g found area i (byteAt rest 0)))
 
-unfoldable pub readOptions : List ℕ → Options
-readOptions area = readFrom area 0 0 area nothing
+unfoldable pub readOptions : Codings → List ℕ → Options
+readOptions g area = readFrom g area 0 0 area nothing
 
 -- Fast Open without the SYN flag is ignored
 abbrev pub ifSyn : Bool → Options → Options
 ifSyn true o = o
 ifSyn false o = record { mss = o .mss; fast = Absent }
 
--- the options of a segment that count
-unfoldable pub optionsOf : List ℕ → Options
-optionsOf seg = ifSyn (has (byteAt seg 13) SYN) (readOptions (optionArea seg))
+-- the options of a segment that count, under a setting
+unfoldable pub optionsOf : Codings → List ℕ → Options
+optionsOf g seg = ifSyn (has (byteAt seg 13) SYN) (readOptions g (optionArea seg))
 
 -- the bytes of a cookie that was found in an area; none of a request
 abbrev pub cookieBytes : FastOpenOption → List ℕ → List ℕ
 cookieBytes Absent area = []
-cookieBytes Request area = []
-cookieBytes (Cookie at len) area = take len (drop at area)
+cookieBytes (Request c) area = []
+cookieBytes (Cookie c at len) area = take len (drop at area)
+
+-- the coding of an option; where there is none, the new one
+abbrev pub codingOf : FastOpenOption → Coding
+codingOf Absent = New
+codingOf (Request c) = c
+codingOf (Cookie c at len) = c

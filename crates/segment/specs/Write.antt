@@ -1,4 +1,4 @@
--- RFC 9293, 3.1, RFC 7413, 4.1.1, and document 01, "Answer" and "Client": the segments that are written.
+-- RFC 9293, 3.1, RFC 7413, 4.1.1 and 9, document 01, "Answer" and "Client", and document 02, Item 4: the segments that are written.
 -- Assumes nothing.
 use Prim.Native.Nat.{ℕ, _+_, _-_, _*_, _/_, _%_}
 use mathlib.Core.List.{List, [], _∷_, _++_}
@@ -10,6 +10,8 @@ use Rattle.segment.specs.Header.{SYN, ACK, longestSegment}
 use Rattle.segment.specs.Options.{isCookieLength}
 use Rattle.segment.specs.Checksum.{complement, oneFamily, segmentSum}
 use Rattle.segment.specs.Sequence.{nextAfter, window}
+use Rattle.segment.specs.declared.options.Coding.{Coding}
+use Rattle.segment.specs.declared.options.Coding.the-variants.{New, Older}
 use Rattle.segment.specs.declared.write.Outgoing.{Outgoing}
 use Rattle.segment.specs.declared.write.SynAck.{SynAck}
 use Rattle.segment.specs.declared.write.Opening.{Opening}
@@ -18,9 +20,14 @@ use Rattle.segment.specs.declared.write.Opening.{Opening}
 abbrev pub mssBytes : ℕ → List ℕ
 mssBytes mss = 2 ∷ 4 ∷ be16 mss
 
--- kind 34, the length and the cookie; an empty cookie is a request
-abbrev pub fastOpenBytes : List ℕ → List ℕ
-fastOpenBytes cookie = 34 ∷ (length cookie + 2) ∷ cookie
+-- what stands before a cookie of n bytes: kind and length, and in the older coding the two bytes of the experiment
+abbrev pub prefixBytes : Coding → ℕ → List ℕ
+prefixBytes New n = 34 ∷ (n + 2) ∷ []
+prefixBytes Older n = 254 ∷ (n + 4) ∷ 0xF9 ∷ 0x89 ∷ []
+
+-- the Fast Open option in a coding; an empty cookie is a request
+abbrev pub fastOpenBytes : Coding → List ℕ → List ℕ
+fastOpenBytes c cookie = prefixBytes c (length cookie) ++ cookie
 
 -- whether a segment may have these options: a Fast Open option has no cookie (a request) or one of a cookie's length
 unfoldable pub optionAllowed : Bool → ℕ → Bool
@@ -34,13 +41,13 @@ abbrev pub padded : List ℕ → List ℕ
 padded options = options ++ replicate (padding (length options)) 1
 
 -- the option area: the MSS option and, if there is to be one, the Fast Open option
-unfoldable pub optionBytes : ℕ → Bool → List ℕ → List ℕ
-optionBytes mss false cookie = mssBytes mss
-optionBytes mss true cookie = padded (mssBytes mss ++ fastOpenBytes cookie)
+unfoldable pub optionBytes : ℕ → Bool → Coding → List ℕ → List ℕ
+optionBytes mss false c cookie = mssBytes mss
+optionBytes mss true c cookie = padded (mssBytes mss ++ fastOpenBytes c cookie)
 
 -- how many bytes the area has with a cookie of n bytes: here of zeros, and with MSS 0, but it is the same for all (law `options-length`)
-unfoldable pub optionLength : Bool → ℕ → ℕ
-optionLength fast n = length (optionBytes 0 fast (replicate n 0))
+unfoldable pub optionLength : Bool → Coding → ℕ → ℕ
+optionLength fast c n = length (optionBytes 0 fast c (replicate n 0))
 
 -- the header with a data offset and a checksum; window 65,535, urgent 0
 unfoldable pub headerBytes : Outgoing → ℕ → ℕ → List ℕ
@@ -59,7 +66,7 @@ segmentBytes src dst f options payload =
 
 -- the option area of a segment to be written
 abbrev pub optionsFor : Outgoing → List ℕ → List ℕ
-optionsFor f cookie = optionBytes (f .mss) (f .fast) cookie
+optionsFor f cookie = optionBytes (f .mss) (f .fast) (f .coding) cookie
 
 -- how many bytes the segment has
 abbrev pub lengthFor : Outgoing → List ℕ → List ℕ → ℕ
@@ -78,7 +85,7 @@ unfoldable pub written : List ℕ → List ℕ → Outgoing → List ℕ → Lis
 written src dst f cookie payload out-len =
     cond (canWrite src dst f cookie payload out-len) (segmentBytes src dst f (optionsFor f cookie) payload) []
 
--- "Answer": SYN and ACK, our initial number, their number + 1 + accepted, and a cookie if it is fresh
+-- "Answer": SYN and ACK, our initial number, their number + 1 + accepted, and a cookie, in a coding, if it is fresh
 abbrev pub synAckFields : SynAck → Outgoing
 synAckFields a =
     record {
@@ -89,6 +96,7 @@ synAckFields a =
       flags = SYN + ACK;
       mss = a .mss;
       fast = a .fresh;
+      coding = a .coding;
     }
 
 unfoldable pub synAckBytes : List ℕ → List ℕ → SynAck → List ℕ → ℕ → List ℕ
@@ -103,7 +111,7 @@ abbrev pub synAckLength : Bool → ℕ
 synAckLength false = 24
 synAckLength true = longestSynAck
 
--- "Client": SYN, our initial number, acknowledgement 0, and a Fast Open option if there is to be one
+-- "Client": SYN, our initial number, acknowledgement 0, and a Fast Open option, always in the new coding, if there is to be one
 abbrev pub openingFields : Opening → Outgoing
 openingFields o =
     record {
@@ -114,6 +122,7 @@ openingFields o =
       flags = SYN;
       mss = o .mss;
       fast = o .fast;
+      coding = New;
     }
 
 unfoldable pub openingBytes : List ℕ → List ℕ → Opening → List ℕ → List ℕ → ℕ → List ℕ

@@ -1,4 +1,4 @@
-// The option reader (RFC 9293, 3.1; RFC 7413, 4.1.1).
+// The option reader (RFC 9293, 3.1; RFC 7413, 4.1.1 and 9).
 use crate::header::has_syn;
 use crate::header::option_area;
 use crate::header::part;
@@ -6,7 +6,7 @@ use crate::number::word_at;
 ghost use mathlib.Core.Path.{_≡_};
 ghost use Prim.Native.Nat.{_+_, _≤_};
 ghost use lib.ListN.{length};
-ghost use Rattle.segment.specs.Options.{mssOption, isCookieLength, fastOpenOption, firstMss, firstFastOpen, withOption, readOptions, optionsOf, cookieBytes};
+ghost use Rattle.segment.specs.Options.{mssOption, isCookieLength, cookieAt, isIn, countsCoding, codingsOf, fastOpenOption, firstMss, firstFastOpen, withOption, readOptions, optionsOf, cookieBytes, codingOf};
 
 // The own MSS that an end may be set to lies between these.
 pub const LEAST_MSS: u32 = 536;
@@ -19,11 +19,27 @@ pub enum Mss {
     Given(u16),
 }
 
+// How a Fast Open option is coded: as kind 34, or in the older way, as kind 254 with F9 89 behind its length.
+pub enum Coding {
+    New,
+    Older,
+}
+
+// The codings that count, a setting.
+pub enum Codings {
+    NewOnly,
+    Both,
+}
+
 // The Fast Open option: none, an empty one that asks for a cookie, or a cookie by its place in the area.
 pub enum FastOpenOption {
     Absent,
-    Request,
-    Cookie { at: usize, len: usize },
+    Request(Coding),
+    Cookie {
+        coding: Coding,
+        at: usize,
+        len: usize,
+    },
 }
 
 // The options that count, the first of each kind.
@@ -47,8 +63,8 @@ fn first_fast_open(found: FastOpenOption, next: FastOpenOption) -> FastOpenOptio
 {
     match found {
         FastOpenOption::Absent => next,
-        FastOpenOption::Request => FastOpenOption::Request,
-        FastOpenOption::Cookie { at, len } => FastOpenOption::Cookie { at, len },
+        FastOpenOption::Request(c) => FastOpenOption::Request(c),
+        FastOpenOption::Cookie { coding, at, len } => FastOpenOption::Cookie { coding, at, len },
     }
 }
 
@@ -77,38 +93,86 @@ pub fn is_cookie_length(n: usize) -> bool
     n % 2 == 0
 }
 
-fn fast_open_option(area: &[u8], i: usize, len: usize) -> FastOpenOption
+// An option with n bytes of cookie at a place.
+fn cookie_at(coding: Coding, at: usize, n: usize) -> FastOpenOption
+    ensures { λ r. ⌜ r ≡ cookieAt coding at n ⌝ }
+{
+    if n == 0 {
+        return FastOpenOption::Request(coding);
+    }
+    if is_cookie_length(n) {
+        return FastOpenOption::Cookie { coding, at, len: n };
+    }
+    FastOpenOption::Absent
+}
+
+// The codings that count, from whether the older one does.
+pub fn codings_of(older: bool) -> Codings
+    ensures { λ r. ⌜ r ≡ codingsOf older ⌝ }
+{
+    if older {
+        return Codings::Both;
+    }
+    Codings::NewOnly
+}
+
+fn counts_older(codings: Codings) -> bool
+    ensures { λ r. ⌜ r ≡ countsCoding codings Coding.Older ⌝ }
+{
+    match codings {
+        Codings::NewOnly => false,
+        Codings::Both => true,
+    }
+}
+
+// Whether the option is in the older coding. Kind 254 is every experiment's.
+fn is_older(area: &[u8], i: usize, len: usize) -> bool
     requires { ⌜ (2 ≤ len) × (i + len ≤ length (now area)) ⌝ }
-    ensures { λ r. ⌜ r ≡ fastOpenOption (now (area .entry)) i len ⌝ }
+    ensures { λ r. ⌜ r ≡ isIn Coding.Older (now (area .entry)) i len ⌝ }
+{
+    if area[i] != 254 {
+        return false;
+    }
+    if len < 4 {
+        return false;
+    }
+    if area[i + 2] != 0xF9 {
+        return false;
+    }
+    area[i + 3] == 0x89
+}
+
+fn fast_open_option(codings: Codings, area: &[u8], i: usize, len: usize) -> FastOpenOption
+    requires { ⌜ (2 ≤ len) × (i + len ≤ length (now area)) ⌝ }
+    ensures { λ r. ⌜ r ≡ fastOpenOption codings (now (area .entry)) i len ⌝ }
 {
     if area[i] == 34 {
-        let n = len - 2;
-        if n == 0 {
-            return FastOpenOption::Request;
-        }
-        if is_cookie_length(n) {
-            return FastOpenOption::Cookie { at: i + 2, len: n };
+        return cookie_at(Coding::New, i + 2, len - 2);
+    }
+    if counts_older(codings) {
+        if is_older(area, i, len) {
+            return cookie_at(Coding::Older, i + 4, len - 4);
         }
     }
     FastOpenOption::Absent
 }
 
 // What is found so far, with the option of `len` bytes at `i`.
-fn with_option(found: Options, area: &[u8], i: usize, len: usize) -> Options
+fn with_option(codings: Codings, found: Options, area: &[u8], i: usize, len: usize) -> Options
     requires { ⌜ (2 ≤ len) × (i + len ≤ length (now area)) ⌝ }
-    ensures { λ r. ⌜ r ≡ withOption found (now (area .entry)) i len ⌝ }
+    ensures { λ r. ⌜ r ≡ withOption codings found (now (area .entry)) i len ⌝ }
 {
     let mss = found.mss;
     let fast = found.fast;
     Options {
         mss: first_mss(mss, mss_option(area, i, len)),
-        fast: first_fast_open(fast, fast_open_option(area, i, len)),
+        fast: first_fast_open(fast, fast_open_option(codings, area, i, len)),
     }
 }
 
 // Reads an option area. Where a length does not fit, the reading ends and what was found before stands.
-pub fn read_options(area: &[u8]) -> Options
-    ensures { λ r. ⌜ r ≡ readOptions (now (area .entry)) ⌝ }
+pub fn read_options(codings: Codings, area: &[u8]) -> Options
+    ensures { λ r. ⌜ r ≡ readOptions codings (now (area .entry)) ⌝ }
 {
     let n = area.len();
     let mut found = Options {
@@ -135,7 +199,7 @@ pub fn read_options(area: &[u8]) -> Options
         if n - i < len {
             return found;
         }
-        let next = with_option(found, area, i, len);
+        let next = with_option(codings, found, area, i, len);
         found = next;
         i += len;
     }
@@ -143,10 +207,10 @@ pub fn read_options(area: &[u8]) -> Options
 }
 
 // The options of a segment that count: without SYN no Fast Open option does, and a malformed segment has none.
-pub fn segment_options(seg: &[u8]) -> Options
-    ensures { λ r. ⌜ r ≡ optionsOf (now (seg .entry)) ⌝ }
+pub fn segment_options(codings: Codings, seg: &[u8]) -> Options
+    ensures { λ r. ⌜ r ≡ optionsOf codings (now (seg .entry)) ⌝ }
 {
-    let found = read_options(option_area(seg));
+    let found = read_options(codings, option_area(seg));
     if has_syn(seg) {
         return found;
     }
@@ -162,8 +226,19 @@ pub fn cookie(area: &[u8], fast: FastOpenOption) -> &[u8]
     ensures { λ r. ⌜ now r ≡ cookieBytes fast (now (area .entry)) ⌝ }
 {
     match fast {
-        FastOpenOption::Cookie { at, len } => part(area, at, len),
-        FastOpenOption::Request => &area[..0],
+        FastOpenOption::Cookie { at, len, .. } => part(area, at, len),
+        FastOpenOption::Request(_) => &area[..0],
         FastOpenOption::Absent => &area[..0],
+    }
+}
+
+// The coding of the option that was found; where there is none, the new one.
+pub fn coding_of(fast: FastOpenOption) -> Coding
+    ensures { λ r. ⌜ r ≡ codingOf fast ⌝ }
+{
+    match fast {
+        FastOpenOption::Absent => Coding::New,
+        FastOpenOption::Request(coding) => coding,
+        FastOpenOption::Cookie { coding, .. } => coding,
     }
 }

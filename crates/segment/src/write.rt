@@ -1,4 +1,4 @@
-// The segments that are written: the listener's SYN-ACK and the client's opening (RFC 9293, 3.1; RFC 7413, 4.1.1).
+// The segments that are written: the listener's SYN-ACK and the client's opening (RFC 9293, 3.1; RFC 7413, 4.1.1 and 9).
 //
 // A write leaves its bytes at the output's start and the later bytes as they were, and returns how many bytes it wrote. Nothing is
 // written, and 0 returned, where the output is too short, the addresses are not of one family, a Fast Open option is asked for that
@@ -9,6 +9,7 @@ use crate::checksum::pseudo_sum;
 use crate::header::ACK;
 use crate::header::LONGEST_SEGMENT;
 use crate::header::SYN;
+use crate::options::Coding;
 use crate::options::is_cookie_length;
 use crate::sequence::next_after;
 ghost use mathlib.Core.Path.{_≡_};
@@ -17,7 +18,8 @@ ghost use mathlib.Core.List.{_++_};
 ghost use Prim.Native.Nat.{_+_, _-_, _≤_, _<_};
 ghost use lib.ListN.{length, take, drop, replicate};
 ghost use Rattle.segment.specs.Checksum.{onesSum, complement, oneFamily, pseudoHeader};
-ghost use Rattle.segment.specs.Write.{padding, optionAllowed, optionBytes, optionLength, headerBytes, optionsFor, lengthFor, canWrite, written, synAckBytes, openingBytes};
+ghost use Rattle.segment.specs.Options.{prefixLength};
+ghost use Rattle.segment.specs.Write.{prefixBytes, padding, optionAllowed, optionBytes, optionLength, headerBytes, optionsFor, lengthFor, canWrite, written, synAckBytes, openingBytes};
 ghost use Rattle.lists.specs.Bytes.{overwrite};
 
 // The most bytes of options and payload.
@@ -28,7 +30,7 @@ pub const LONGEST_SYN_ACK: usize = 36;
 
 pub const LONGEST_OPENING: usize = 1504;
 
-// The fields of a segment to write, besides its cookie and its data. `fast`: with a Fast Open option.
+// The fields of a segment to write, besides its cookie and its data. `fast`: with a Fast Open option, in this coding.
 pub(crate) struct Outgoing {
     pub source: u16,
     pub dest: u16,
@@ -37,9 +39,11 @@ pub(crate) struct Outgoing {
     pub flags: u8,
     pub mss: u16,
     pub fast: bool,
+    pub coding: Coding,
 }
 
-// A SYN-ACK, document 01's answer: both initial numbers, how many bytes of data were accepted, and whether a fresh cookie goes with it.
+// A SYN-ACK, document 01's answer: both initial numbers, how many bytes of data were accepted, and whether a fresh cookie goes with it,
+// in this coding.
 pub struct SynAck {
     pub source: u16,
     pub dest: u16,
@@ -48,6 +52,7 @@ pub struct SynAck {
     pub accepted: u32,
     pub mss: u16,
     pub fresh: bool,
+    pub coding: Coding,
 }
 
 // An opening: our initial number, and whether a Fast Open option goes with it.
@@ -80,19 +85,36 @@ fn pad(out: &mut [u8], at: usize) -> usize
     append(out, at, &ones[..n])
 }
 
+// What stands before a cookie of n bytes.
+fn put_prefix(out: &mut [u8], at: usize, coding: Coding, n: usize) -> usize
+    requires { ⌜ (n ≤ 40) × (at + length (prefixBytes coding n) ≤ length (now out)) ⌝ }
+    ensures { λ r. ⌜ r ≡ at + length (prefixBytes coding n) ⌝ }
+    ensures { λ _. ⌜ now (out .exit) ≡ take at (now (out .entry)) ++ (prefixBytes coding n ++ drop (at + length (prefixBytes coding n)) (now (out .entry))) ⌝ }
+{
+    match coding {
+        Coding::New => {
+            let new = [34, (n + 2) as u8];
+            append(out, at, &new)
+        }
+        Coding::Older => {
+            let older = [254, (n + 4) as u8, 0xF9, 0x89];
+            append(out, at, &older)
+        }
+    }
+}
+
 // The option writer, lent the output from byte 20.
-fn put_options(out: &mut [u8], mss: u16, fast: bool, cookie: &[u8]) -> usize
-    requires { ⌜ (length (optionBytes mss fast (now cookie)) ≤ 40) × (length (optionBytes mss fast (now cookie)) ≤ length (now out)) ⌝ }
-    ensures { λ r. ⌜ r ≡ length (optionBytes mss fast (now (cookie .entry))) ⌝ }
-    ensures { λ _. ⌜ now (out .exit) ≡ overwrite (optionBytes mss fast (now (cookie .entry))) (now (out .entry)) ⌝ }
+fn put_options(out: &mut [u8], mss: u16, fast: bool, coding: Coding, cookie: &[u8]) -> usize
+    requires { ⌜ (length (optionBytes mss fast coding (now cookie)) ≤ 40) × (length (optionBytes mss fast coding (now cookie)) ≤ length (now out)) ⌝ }
+    ensures { λ r. ⌜ r ≡ length (optionBytes mss fast coding (now (cookie .entry))) ⌝ }
+    ensures { λ _. ⌜ now (out .exit) ≡ overwrite (optionBytes mss fast coding (now (cookie .entry))) (now (out .entry)) ⌝ }
 {
     let size = [2, 4, (mss / 256 % 256) as u8, (mss % 256) as u8];
     let a = append(out, 0, &size);
     if !fast {
         return a;
     }
-    let kind = [34, (cookie.len() + 2) as u8];
-    let b = append(out, a, &kind);
+    let b = put_prefix(out, a, coding, cookie.len());
     let c = append(out, b, cookie);
     pad(out, c)
 }
@@ -103,7 +125,8 @@ fn put_body(out: &mut [u8], f: Outgoing, cookie: &[u8], payload: &[u8]) -> usize
     ensures { λ r. ⌜ r ≡ length (optionsFor f (now (cookie .entry))) ⌝ }
     ensures { λ r. ⌜ now (out .exit) ≡ take 20 (now (out .entry)) ++ (optionsFor f (now (cookie .entry)) ++ (now (payload .entry) ++ drop (20 + r + length (now (payload .entry))) (now (out .entry)))) ⌝ }
 {
-    let m = put_options(&mut out[20..], f.mss, f.fast, cookie);
+    let coding = f.coding;
+    let m = put_options(&mut out[20..], f.mss, f.fast, coding, cookie);
     let end = 20 + m;
     bytes::copy(payload, &mut out[end..]);
     m
@@ -152,9 +175,19 @@ fn put_header(out: &mut [u8], src: &[u8], dst: &[u8], f: Outgoing, offset: u8, n
     bytes::copy(&with_checksum, out);
 }
 
+// How many bytes stand before a cookie.
+fn prefix_length(coding: Coding) -> usize
+    ensures { λ r. ⌜ r ≡ prefixLength coding ⌝ }
+{
+    match coding {
+        Coding::New => 2,
+        Coding::Older => 4,
+    }
+}
+
 // How many bytes of options are written, with a cookie of n bytes where there is a Fast Open option; 0 where a segment may not have them.
-pub fn option_length(fast: bool, n: usize) -> usize
-    ensures { λ r. ⌜ (r ≡ cond (optionAllowed fast n) (optionLength fast n) 0) × (r ≤ 24) ⌝ }
+pub fn option_length(fast: bool, coding: Coding, n: usize) -> usize
+    ensures { λ r. ⌜ (r ≡ cond (optionAllowed fast n) (optionLength fast coding n) 0) × (r ≤ 24) ⌝ }
 {
     if !fast {
         return 4;
@@ -165,7 +198,7 @@ pub fn option_length(fast: bool, n: usize) -> usize
     if !is_cookie_length(n) {
         return 0;
     }
-    4 + (n + 5) / 4 * 4
+    4 + (n + prefix_length(coding) + 3) / 4 * 4
 }
 
 // The length of a segment that can be written to an output of this length, else 0.
@@ -182,7 +215,8 @@ fn writable_length(
     if !is_one_family(src, dst) {
         return 0;
     }
-    let m = option_length(f.fast, cookie.len());
+    let coding = f.coding;
+    let m = option_length(f.fast, coding, cookie.len());
     if m == 0 {
         return 0;
     }
@@ -222,6 +256,7 @@ pub fn write_syn_ack(out: &mut [u8], src: &[u8], dst: &[u8], a: SynAck, cookie: 
     ensures { λ r. ⌜ r ≡ length (synAckBytes (now (src .entry)) (now (dst .entry)) a cookie (length (now (out .entry)))) ⌝ }
     ensures { λ _. ⌜ now (out .exit) ≡ overwrite (synAckBytes (now (src .entry)) (now (dst .entry)) a cookie (length (now (out .entry)))) (now (out .entry)) ⌝ }
 {
+    let coding = a.coding;
     let f = Outgoing {
         source: a.source,
         dest: a.dest,
@@ -230,6 +265,7 @@ pub fn write_syn_ack(out: &mut [u8], src: &[u8], dst: &[u8], a: SynAck, cookie: 
         flags: SYN + ACK,
         mss: a.mss,
         fast: a.fresh,
+        coding,
     };
     write_segment(out, src, dst, f, &cookie, &src[..0])
 }
@@ -254,6 +290,7 @@ pub fn write_opening(
         flags: SYN,
         mss: o.mss,
         fast: o.fast,
+        coding: Coding::New,
     };
     write_segment(out, src, dst, f, cookie, payload)
 }

@@ -1,7 +1,7 @@
 -- The replay format (docs/REPLAY.md), "Lines in": a line's words as the arguments of a call, each if its word is one.
 -- Assumes nothing.
 use Prim.Native.Nat.{ℕ}
-use mathlib.Core.Bool.{Bool, cond, _&&_}
+use mathlib.Core.Bool.{Bool, true, false, cond, _&&_}
 use mathlib.Core.List.{List, [], _∷_}
 use mathlib.Core.Option.{Option, none, some}
 use lib.Dec.{eqb}
@@ -16,6 +16,8 @@ use Rattle.text.specs.declared.number.Number16.{Number16}
 use Rattle.text.specs.declared.number.Number16.the-variants.{Value as Value16, Bad as Bad16}
 use Rattle.text.specs.declared.number.Number32.{Number32}
 use Rattle.text.specs.declared.number.Number32.the-variants.{Value as Value32, Bad as Bad32}
+use Rattle.text.specs.declared.argument.Switch.{Switch}
+use Rattle.text.specs.declared.argument.Switch.the-variants.{Value as Truth, Bad as NoTruth}
 use Rattle.text.specs.declared.bytestring.ByteString.{ByteString}
 use Rattle.text.specs.declared.bytestring.ByteString.the-variants.{Count, Bad as NoBytes}
 
@@ -30,6 +32,10 @@ value16 Bad16 = none
 abbrev pub value32 : Number32 → Option ℕ
 value32 (Value32 v) = some v
 value32 Bad32 = none
+
+abbrev pub truthOf : Switch → Option Bool
+truthOf (Truth b) = some b
+truthOf NoTruth = none
 
 abbrev pub bytesIf : ByteString → List ℕ → Option (List ℕ)
 bytesIf (Count n) bytes = some bytes
@@ -50,6 +56,24 @@ numberAt i s = value32 (number32In (wordAt i s))
 -- OUT
 abbrev pub outAt : ℕ → List ℕ → Option ℕ
 outAt i s = valueOf (numberIn (wordAt i s) 2048)
+
+-- one of two words, for true and for false
+unfoldable pub switchIn : List ℕ → List ℕ → List ℕ → Switch
+switchIn on off w = cond (sameBytes w on) (Truth true) (cond (sameBytes w off) (Truth false) NoTruth)
+
+-- on|off
+abbrev pub onIn : List ℕ → Switch
+onIn w = switchIn (111 ∷ 110 ∷ []) (111 ∷ 102 ∷ 102 ∷ []) w
+
+abbrev pub onAt : ℕ → List ℕ → Option Bool
+onAt i s = truthOf (onIn (wordAt i s))
+
+-- new|both: whether it is both
+abbrev pub bothIn : List ℕ → Switch
+bothIn w = switchIn (98 ∷ 111 ∷ 116 ∷ 104 ∷ []) (110 ∷ 101 ∷ 119 ∷ []) w
+
+abbrev pub bothAt : ℕ → List ℕ → Option Bool
+bothAt i s = truthOf (bothIn (wordAt i s))
 
 -- a byte string. No word of a line of 8,192 bytes has more than 4,096.
 abbrev pub bytesAt : ℕ → List ℕ → Option (List ℕ)

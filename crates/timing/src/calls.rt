@@ -12,6 +12,7 @@ use listener::outcome::event_number;
 use protocol::outcome::Event;
 use protocol::state::Listener;
 use protocol::state::Settings;
+use segment::options::Codings;
 use segment::sequence::next_after;
 use std::num::wrapping_add_u64;
 
@@ -49,6 +50,7 @@ fn empty_listener() -> Listener {
         early_room: 1460,
         hold: 0,
         mss: 1460,
+        codings: Codings::NewOnly,
     };
     let o = set_settings(started.listener, 0, settings);
     o.listener

@@ -4,6 +4,7 @@ use crate::data::wide;
 use cipher::encrypt;
 use cipher::expand_key;
 use segment::checksum::add_bytes;
+use segment::options::Codings;
 use segment::options::FastOpenOption;
 use segment::options::Mss;
 use segment::options::read_options;
@@ -107,14 +108,14 @@ fn mss_part(mss: Mss) -> u64 {
 fn cookie_part(fast: FastOpenOption) -> u64 {
     match fast {
         FastOpenOption::Absent => 0,
-        FastOpenOption::Request => 0,
-        FastOpenOption::Cookie { at, len } => wrapping_add_u64(at as u64, len as u64),
+        FastOpenOption::Request(_) => 0,
+        FastOpenOption::Cookie { at, len, .. } => wrapping_add_u64(at as u64, len as u64),
     }
 }
 
 // What is read of an area, in one number.
 fn add_options(digest: u64, area: &[u8; 32]) -> u64 {
-    let found = read_options(area);
+    let found = read_options(Codings::NewOnly, area);
     let mss = found.mss;
     let fast = found.fast;
     wrapping_add_u64(digest, wrapping_add_u64(mss_part(mss), cookie_part(fast)))

@@ -1,11 +1,13 @@
 //! Scripts for the client's memory.
 
 use super::line::Line;
-use super::segment::{area_with, noise, wild_area, Plan, Sum};
+use super::segment::{
+    area_with, counted, experiment_area, noise, other_experiment, some_coding, wild_area, Plan, Sum,
+};
 use super::{Rng, Script};
 use crate::client::BAN_MS;
 use crate::script::ClientSession;
-use crate::wire::{self, Header, ACK, FIN, LAST_TIME, RST, SYN};
+use crate::wire::{self, Coding, Codings, Header, ACK, FIN, LAST_TIME, RST, SYN};
 
 pub fn generate(seed: u64, calls: usize) -> Vec<u8> {
     let mut maker = Maker::new(seed);
@@ -36,17 +38,17 @@ struct Theme {
 #[rustfmt::skip]
 const THEMES: [Theme; 6] = [
     // few servers, everything
-    Theme { calls: 250, servers: 4, ports: 2, actions: [40, 50, 3, 3, 0, 2, 6], ignored: 8, damage: 24, step: 50_000, ban_ends: 10, near_last_time: false },
+    Theme { calls: 250, servers: 4, ports: 2, actions: [40, 50, 3, 3, 0, 2, 8], ignored: 8, damage: 24, step: 50_000, ban_ends: 10, near_last_time: false },
     // more servers than are remembered
-    Theme { calls: 420, servers: 36, ports: 1, actions: [40, 56, 1, 1, 0, 2, 6], ignored: 1, damage: 14, step: 1000, ban_ends: 2, near_last_time: false },
+    Theme { calls: 420, servers: 36, ports: 1, actions: [40, 56, 1, 1, 0, 2, 8], ignored: 1, damage: 14, step: 1000, ban_ends: 2, near_last_time: false },
     // more bans than are remembered, often in the same millisecond
-    Theme { calls: 320, servers: 9, ports: 5, actions: [120, 80, 60, 3, 9, 4, 20], ignored: 60, damage: 14, step: 1, ban_ends: 0, near_last_time: false },
+    Theme { calls: 320, servers: 9, ports: 5, actions: [120, 80, 60, 3, 9, 4, 25], ignored: 60, damage: 14, step: 1, ban_ends: 0, near_last_time: false },
     // bans that end
-    Theme { calls: 260, servers: 5, ports: 3, actions: [104, 52, 40, 2, 1, 3, 30], ignored: 25, damage: 17, step: 90_000, ban_ends: 35, near_last_time: false },
+    Theme { calls: 260, servers: 5, ports: 3, actions: [104, 52, 40, 2, 1, 3, 36], ignored: 25, damage: 17, step: 90_000, ban_ends: 35, near_last_time: false },
     // hostile
-    Theme { calls: 220, servers: 3, ports: 2, actions: [22, 55, 5, 16, 0, 1, 4], ignored: 10, damage: 54, step: 10_000, ban_ends: 5, near_last_time: false },
+    Theme { calls: 220, servers: 3, ports: 2, actions: [22, 55, 5, 16, 0, 1, 5], ignored: 10, damage: 54, step: 10_000, ban_ends: 5, near_last_time: false },
     // the end of time
-    Theme { calls: 120, servers: 5, ports: 2, actions: [40, 40, 15, 2, 0, 2, 6], ignored: 20, damage: 20, step: 90_000, ban_ends: 10, near_last_time: true },
+    Theme { calls: 120, servers: 5, ports: 2, actions: [40, 40, 15, 2, 0, 2, 8], ignored: 20, damage: 20, step: 90_000, ban_ends: 10, near_last_time: true },
 ];
 
 /// How many option bytes an opening has with a cookie of this length.
@@ -63,27 +65,28 @@ fn about(rng: &mut Rng, room: i64) -> u64 {
     (room + rng.pick(&[-1, 0, 0, 1, 1])).max(1) as u64
 }
 
-/// The Fast Open option with this cookie, of a length that counts or not.
-fn fast_open(cookie: &[u8]) -> Vec<u8> {
-    [&[wire::FAST_OPEN, 2 + cookie.len() as u8][..], cookie].concat()
-}
-
 /// One sort of answer by its Fast Open options: with this cookie, without one, or with one
 /// that counts only if what stands before it doesn't.
-fn answer_sort(rng: &mut Rng, cookie: &[u8]) -> Vec<Vec<u8>> {
-    let (request, cookie) = (fast_open(&[]), fast_open(cookie));
+fn answer_sort(rng: &mut Rng, cookie: &[u8], codings: Codings) -> Vec<Vec<u8>> {
     let length = rng.pick(&[1, 2, 3, 5, 7, 9, 15, 17, 18]);
-    let skipped = fast_open(&rng.bytes(length));
-    let end = rng.pick(&[vec![wire::END_OF_LIST], vec![wire::FAST_OPEN, 0], vec![wire::FAST_OPEN, 255]]);
-    match rng.below(17) {
-        0..=5 => vec![cookie],
-        6 => vec![cookie, request],
-        7 | 8 => vec![skipped, cookie],
+    let uncounted = rng.bytes(length);
+    let older = Coding::Older.option(cookie);
+    let [request, cookie, skipped] =
+        [&[], cookie, &uncounted].map(|cookie| some_coding(rng, codings).option(cookie));
+    let kind = rng.pick(&[wire::FAST_OPEN, wire::EXPERIMENT]);
+    let end = rng.pick(&[vec![wire::END_OF_LIST], vec![kind, 0], vec![kind, 255]]);
+    match rng.below(21) {
+        0..=4 => vec![cookie],
+        5 => vec![cookie, request],
+        6..=8 => vec![skipped, cookie],
         9 | 10 => vec![request, cookie],
         11 => vec![end, cookie],
         12 | 13 => vec![request],
         14 => vec![skipped],
         15 => vec![wire::mss_option(1460).to_vec()],
+        16 => vec![other_experiment(rng), cookie],
+        17 => vec![other_experiment(rng)],
+        18 | 19 => vec![older],
         _ => Vec::new(),
     }
 }
@@ -297,13 +300,17 @@ impl Maker {
     }
 
     /// What a server's answer carries: often a cookie, a size, or both.
-    fn options(&mut self) -> Vec<u8> {
+    fn options(&mut self, codings: Codings) -> Vec<u8> {
         let rng = &mut self.script.rng;
         let length = rng.pick(&[4, 6, 8, 8, 8, 10, 12, 14, 16]);
         let cookie = rng.bytes(length);
         if rng.percent(12) {
             return wild_area(rng, &cookie);
         }
+        if rng.percent(7) {
+            return experiment_area(rng, &cookie);
+        }
+        let [request, cookie] = [&[], &cookie[..]].map(|cookie| some_coding(rng, codings).option(cookie));
         let mut wanted = Vec::new();
         if rng.percent(45) {
             let any = rng.next() as u16;
@@ -316,14 +323,14 @@ impl Maker {
             wanted.push(wire::mss_option(mss).to_vec());
         }
         if rng.percent(65) {
-            wanted.push(fast_open(&cookie));
+            wanted.push(cookie);
         } else if rng.percent(15) {
             // nothing to store
-            return area_with(rng, &[fast_open(&[])]);
+            return area_with(rng, &[request]);
         } else if rng.percent(25) {
-            // an empty one stands first and is the one used
-            wanted.push(fast_open(&[]));
-            wanted.push(fast_open(&cookie));
+            // an empty one stands first and, if it counts, is the one used
+            wanted.push(request);
+            wanted.push(cookie);
         }
         if rng.percent(15) {
             wanted.reverse();
@@ -333,7 +340,8 @@ impl Maker {
 
     fn answer(&mut self, theme: &Theme) {
         let (server, port) = self.target(theme);
-        let options = self.options();
+        let codings = self.codings();
+        let options = self.options(codings);
         let mut time = self.time(theme);
         let (mut given_own, mut given_server) = (self.own.clone(), server.clone());
         let rng = &mut self.script.rng;
@@ -394,7 +402,8 @@ impl Maker {
             .u16(given_port)
             .u32(ours)
             .u32(sent)
-            .bytes(&plan.encode());
+            .bytes(&plan.encode())
+            .codings(codings);
         self.script.call(&line);
     }
 
@@ -460,7 +469,14 @@ impl Maker {
 
     /// An answer that acknowledges no data, in which only the server, the bytes sent and the
     /// options matter.
-    fn simple_answer(&mut self, time: u64, server: &[u8], port: u16, sent: u32, options: &[u8]) {
+    fn simple_answer(
+        &mut self,
+        time: u64,
+        (server, port): (&[u8], u16),
+        sent: u32,
+        options: &[u8],
+        codings: Codings,
+    ) {
         let rng = &mut self.script.rng;
         let ours = rng.sequence();
         let header = Header {
@@ -480,7 +496,8 @@ impl Maker {
             .u16(port)
             .u32(ours)
             .u32(sent)
-            .bytes(&segment);
+            .bytes(&segment)
+            .codings(codings);
         self.script.call(&line);
     }
 
@@ -491,13 +508,14 @@ impl Maker {
         // past the ports that get banned
         let port = self.first_port.wrapping_add(8);
         for length in [4, 6, 8, 10, 12, 14, 16] {
+            let codings = self.codings();
             let rng = &mut self.script.rng;
             let room = rng.pick(&[-8, -1, 0, 0, 1, 1, 2, 9]);
             let mss = option_bytes(length) as i64 + room;
             let mut options = wire::mss_option(mss as u16).to_vec();
-            options.extend(fast_open(&rng.bytes(length)));
-            options.resize(option_bytes(length), wire::NO_OPERATION);
-            self.simple_answer(time, &server, port, 0, &options);
+            options.extend(counted(rng, codings).option(&rng.bytes(length)));
+            options.resize(options.len().next_multiple_of(4), wire::NO_OPERATION);
+            self.simple_answer(time, (&server, port), 0, &options, codings);
             let rng = &mut self.script.rng;
             let offered = about(rng, room);
             let data = rng.bytes(offered as usize);
@@ -510,18 +528,23 @@ impl Maker {
     fn unacknowledged(&mut self, theme: &Theme) {
         let (server, port) = self.target(theme);
         let time = self.time(theme);
-        let cookie = self.cookie(&server);
+        let (cookie, codings) = (self.cookie(&server), self.codings());
         let rng = &mut self.script.rng;
-        let wanted = answer_sort(rng, &cookie);
+        let wanted = answer_sort(rng, &cookie, codings);
         let options = area_with(rng, &wanted);
         let sent = rng.pick(&[1, 1, 2, 30, 536, 1460]);
-        self.simple_answer(time, &server, port, sent, &options);
+        self.simple_answer(time, (&server, port), sent, &options, codings);
         self.simple_open(time, &server, port, &[1]);
         if self.script.rng.percent(theme.ban_ends) {
             let end = self.ban_end(&server, port).unwrap_or(time + BAN_MS);
             self.simple_open((end - 1).min(LAST_TIME), &server, port, &[2]);
             self.simple_open(end.min(LAST_TIME), &server, port, &[3]);
         }
+    }
+
+    /// The coding setting to be given with an answer.
+    fn codings(&mut self) -> Codings {
+        self.script.rng.pick(&[Codings::New, Codings::Both])
     }
 
     /// A cookie for an answer: any, or now and then the one that is stored.
@@ -545,7 +568,7 @@ impl Maker {
 
     fn noise(&mut self, theme: &Theme) {
         let time = self.time(theme);
-        let server = self.server();
+        let (server, codings) = (self.server(), self.codings());
         let rng = &mut self.script.rng;
         let ours = rng.sequence();
         let sent = rng.below(1500) as u32;
@@ -558,7 +581,8 @@ impl Maker {
             .u16(self.first_port)
             .u32(ours)
             .u32(sent)
-            .bytes(&bytes);
+            .bytes(&bytes)
+            .codings(codings);
         self.script.call(&line);
     }
 }

@@ -2,6 +2,7 @@
 
 use super::Rng;
 use crate::script::LONGEST_LINE;
+use crate::wire::Codings;
 
 #[derive(Clone)]
 enum Word {
@@ -9,6 +10,8 @@ enum Word {
     /// A value, and the largest its place takes.
     Number(u64, u64),
     Bytes(Vec<u8>),
+    /// Stands last, or is left out.
+    Codings(Codings),
 }
 
 #[derive(Clone)]
@@ -52,6 +55,11 @@ impl Line {
         self
     }
 
+    pub fn codings(mut self, codings: Codings) -> Line {
+        self.words.push(Word::Codings(codings));
+        self
+    }
+
     fn plain(&self) -> Vec<Vec<u8>> {
         self.words
             .iter()
@@ -60,6 +68,8 @@ impl Line {
                 Word::Number(value, _) => value.to_string().into_bytes(),
                 Word::Bytes(bytes) if bytes.is_empty() => b"-".to_vec(),
                 Word::Bytes(bytes) => bytes.iter().flat_map(|b| format!("{b:02x}").into_bytes()).collect(),
+                Word::Codings(Codings::New) => b"new".to_vec(),
+                Word::Codings(Codings::Both) => b"both".to_vec(),
             })
             .collect()
     }
@@ -79,6 +89,9 @@ impl Line {
     /// A right spelling.
     pub fn spelt(&self, rng: &mut Rng) -> Vec<u8> {
         let mut words = self.plain();
+        if matches!(self.words.last(), Some(Word::Codings(Codings::New))) && rng.percent(50) {
+            words.pop();
+        }
         match rng.below(12) {
             0 => self.recase(&mut words, |_| true),
             1 | 2 => {
@@ -110,8 +123,23 @@ impl Line {
         }
     }
 
-    /// A spelling that is wrong in one way, if the line has what that way needs.
+    /// The line with something else in the place of the coding setting that stands last.
+    pub fn miscoded(&self, rng: &mut Rng) -> Vec<u8> {
+        let wrong: [&[u8]; 4] = [b"old", b"NEW", b"", b"both both"];
+        let rarer: [&[u8]; 8] = [b"Both", b" ", b"new ", b" both", b"new both", b"newer", b"-", b"254"];
+        let wrong = if rng.percent(60) { rng.pick(&wrong) } else { rng.pick(&rarer) };
+        let mut words = self.plain();
+        words.pop();
+        words.push(wrong.to_vec());
+        words.join(&b' ')
+    }
+
+    /// A spelling that is wrong in one way, if the line has what that way needs; right after
+    /// all where it is the coding setting that was dropped.
     pub fn spoilt(&self, rng: &mut Rng) -> Vec<u8> {
+        if matches!(self.words.last(), Some(Word::Codings(_))) && rng.percent(25) {
+            return self.miscoded(rng);
+        }
         let mut words = self.plain();
         let numbers = self.numbers();
         let strings = self.strings();

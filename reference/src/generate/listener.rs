@@ -1,12 +1,14 @@
 //! Scripts for the listener.
 
 use super::line::Line;
-use super::segment::{area_with, noise, wild_area, Plan, Sum, NUDGES};
+use super::segment::{
+    area_with, counted, experiment_area, noise, some_coding, wild_area, Plan, Sum, CODINGS, NUDGES,
+};
 use super::Script;
 use crate::aes::Schedule;
 use crate::listener::{cookie, Settings, Slot, Status};
 use crate::script::ListenerSession;
-use crate::wire::{self, ACK, FIN, LAST_TIME, RST, SYN};
+use crate::wire::{self, Codings, ACK, FIN, LAST_TIME, RST, SYN};
 
 pub fn generate(seed: u64, calls: usize) -> Vec<u8> {
     let mut maker = Maker::new(seed);
@@ -27,10 +29,10 @@ struct Theme {
     holds: &'static [u32],
     /// Percent of calls that are damaged.
     damage: u64,
-    /// Weight of right cookies among openings; all else weighs 60.
+    /// Weight of right cookies among openings; all else weighs 80.
     right: u64,
     /// Weights of the actions, in the order of `Maker::act_once`.
-    actions: [u64; 13],
+    actions: [u64; 14],
     /// The usual longest step in time, and a rare longer one.
     step: u64,
     leap: u64,
@@ -40,42 +42,42 @@ struct Theme {
 }
 
 #[rustfmt::skip]
-//                     open again compl reset aband resend close settings key noise kinds twins hold
+//                     open again compl reset aband resend close settings key noise kinds twins hold turn
 const THEMES: [Theme; 7] = [
     // a bit of everything
     Theme {
-        calls: 300, addresses: 5, ports: 12, limits: &[3, 8, 16, 64], holds: &[0, 100, 1000, 65_535], damage: 18, right: 60,
-        actions: [30, 12, 16, 10, 5, 6, 9, 3, 2, 3, 3, 2, 5], step: 20, leap: 3000, near_last_time: false, brim: false,
+        calls: 300, addresses: 5, ports: 12, limits: &[3, 8, 16, 64], holds: &[0, 100, 1000, 65_535], damage: 18, right: 80,
+        actions: [30, 12, 16, 10, 5, 6, 9, 3, 2, 3, 3, 2, 5, 1], step: 20, leap: 3000, near_last_time: false, brim: false,
     },
     // a full table
     Theme {
-        calls: 330, addresses: 6, ports: 60, limits: &[40, 63, 63, 64, 64], holds: &[50, 65_535], damage: 10, right: 400,
-        actions: [44, 12, 12, 8, 4, 8, 9, 1, 1, 1, 1, 2, 3], step: 3, leap: 60, near_last_time: false, brim: true,
+        calls: 330, addresses: 6, ports: 60, limits: &[40, 63, 63, 64, 64], holds: &[50, 65_535], damage: 10, right: 520,
+        actions: [44, 12, 12, 8, 4, 8, 9, 1, 1, 1, 1, 2, 3, 1], step: 3, leap: 60, near_last_time: false, brim: true,
     },
     // resets and their holds
     Theme {
-        calls: 300, addresses: 3, ports: 8, limits: &[2, 3, 5, 10], holds: &[0, 1, 2, 10, 40], damage: 12, right: 120,
-        actions: [36, 9, 6, 24, 5, 4, 4, 5, 1, 1, 1, 1, 12], step: 6, leap: 50, near_last_time: false, brim: false,
+        calls: 300, addresses: 3, ports: 8, limits: &[2, 3, 5, 10], holds: &[0, 1, 2, 10, 40], damage: 12, right: 155,
+        actions: [36, 9, 6, 24, 5, 4, 4, 5, 1, 1, 1, 1, 12, 1], step: 6, leap: 50, near_last_time: false, brim: false,
     },
     // keys that turn
     Theme {
-        calls: 260, addresses: 2, ports: 30, limits: &[20, 64], holds: &[0, 5], damage: 12, right: 40,
-        actions: [42, 4, 12, 8, 8, 3, 10, 2, 14, 1, 1, 1, 3], step: 9, leap: 90, near_last_time: false, brim: false,
+        calls: 260, addresses: 2, ports: 30, limits: &[20, 64], holds: &[0, 5], damage: 12, right: 55,
+        actions: [42, 4, 12, 8, 8, 3, 10, 2, 14, 1, 1, 1, 3, 1], step: 9, leap: 90, near_last_time: false, brim: false,
     },
     // pending about the limit
     Theme {
-        calls: 260, addresses: 3, ports: 10, limits: &[0, 1, 2, 3], holds: &[0, 30, 300], damage: 12, right: 120,
-        actions: [36, 8, 10, 12, 8, 4, 8, 9, 2, 1, 1, 2, 5], step: 10, leap: 300, near_last_time: false, brim: false,
+        calls: 260, addresses: 3, ports: 10, limits: &[0, 1, 2, 3], holds: &[0, 30, 300], damage: 12, right: 155,
+        actions: [36, 8, 10, 12, 8, 4, 8, 9, 2, 1, 1, 2, 5, 1], step: 10, leap: 300, near_last_time: false, brim: false,
     },
     // the end of time
     Theme {
-        calls: 170, addresses: 3, ports: 9, limits: &[4, 64], holds: &[10, 1000, 65_535], damage: 20, right: 100,
-        actions: [34, 8, 10, 18, 4, 4, 6, 3, 2, 1, 1, 2, 5], step: 500, leap: 20_000, near_last_time: true, brim: false,
+        calls: 170, addresses: 3, ports: 9, limits: &[4, 64], holds: &[10, 1000, 65_535], damage: 20, right: 130,
+        actions: [34, 8, 10, 18, 4, 4, 6, 3, 2, 1, 1, 2, 5, 1], step: 500, leap: 20_000, near_last_time: true, brim: false,
     },
     // hostile
     Theme {
-        calls: 260, addresses: 4, ports: 6, limits: &[2, 8, 64], holds: &[0, 7, 700], damage: 36, right: 60,
-        actions: [24, 10, 12, 10, 5, 5, 6, 4, 3, 12, 12, 2, 4], step: 8, leap: 500, near_last_time: false, brim: false,
+        calls: 260, addresses: 4, ports: 6, limits: &[2, 8, 64], holds: &[0, 7, 700], damage: 36, right: 80,
+        actions: [24, 10, 12, 10, 5, 5, 6, 4, 3, 12, 12, 2, 4, 1], step: 8, leap: 500, near_last_time: false, brim: false,
     },
 ];
 
@@ -145,10 +147,12 @@ impl Maker {
 
     fn fill(&mut self) {
         let source = self.addresses[0].clone();
-        let time = self.clock();
+        let (time, codings) = (self.clock(), self.codings());
         for port in 0..self.script.rng.within(62, 65) as u16 {
             let mut plan = self.plan(&source, port);
-            plan.options = [&[wire::FAST_OPEN, 10][..], &cookie(&self.keys[0], &source), &[1, 1]].concat();
+            let coding = counted(&mut self.script.rng, codings);
+            plan.options = coding.option(&cookie(&self.keys[0], &source));
+            plan.options.resize(12, wire::NO_OPERATION);
             plan.sequence = self.script.rng.sequence();
             plan.payload = vec![port as u8];
             let line =
@@ -220,12 +224,19 @@ impl Maker {
             9 => self.noise(theme),
             10 => self.kinds(theme),
             11 => self.twins(theme),
-            _ => self.hold(theme),
+            12 => self.hold(theme),
+            _ => self.turn_codings(theme),
         }
     }
 
     fn clock(&self) -> u64 {
         self.script.session.listener.front().map_or(0, |front| front.clock())
+    }
+
+    /// The coding setting in force.
+    fn codings(&self) -> Codings {
+        let front = self.script.session.listener.front();
+        front.map_or(Codings::New, |front| front.current_settings().codings)
     }
 
     fn slots(&self, wanted: impl Fn(&Slot) -> bool) -> Vec<Slot> {
@@ -315,11 +326,12 @@ impl Maker {
     /// Options for an opening from an address, mostly with a cookie of some worth.
     fn options(&mut self, theme: &Theme, source: &[u8]) -> Vec<u8> {
         let other = self.address();
+        let codings = self.codings();
         let present = *self.keys.last().unwrap_or(&[0; 16]);
         let back = |steps: usize| self.keys.iter().rev().nth(steps).copied().unwrap_or(present);
         let mut offered = cookie(&present, source).to_vec();
         let rng = &mut self.script.rng;
-        match rng.weighted(&[theme.right, 14, 8, 10, 5, 4, 3, 5, 6, 8]) {
+        match rng.weighted(&[theme.right, 14, 8, 10, 5, 4, 3, 5, 6, 8, 18]) {
             0 => {}
             1 => offered = cookie(&back(1), source).to_vec(),
             2 => offered = cookie(&back(2), source).to_vec(),
@@ -335,10 +347,10 @@ impl Maker {
                 offered.truncate(rng.pick(&[4, 6, 10, 12, 14, 16]));
             }
             8 => return area_with(rng, &[wire::mss_option(1460).to_vec()]),
-            _ => return wild_area(rng, &offered),
+            9 => return wild_area(rng, &offered),
+            _ => return experiment_area(rng, &offered),
         }
-        let mut fast_open = vec![wire::FAST_OPEN, 2 + offered.len() as u8];
-        fast_open.extend_from_slice(&offered);
+        let fast_open = some_coding(rng, codings).option(&offered);
         let mut wanted = vec![wire::mss_option(rng.next() as u16).to_vec(), fast_open];
         if rng.percent(20) {
             wanted.swap(0, 1);
@@ -349,9 +361,9 @@ impl Maker {
             wanted.insert(0, stop);
         }
         if rng.percent(8) {
-            // a second one, which must not matter
+            // a second one, in either coding; the first that counts is used
             let second = rng.bytes(8);
-            wanted.push([&[wire::FAST_OPEN, 10][..], &second].concat());
+            wanted.push(rng.pick(&CODINGS).option(&second));
             if rng.percent(40) {
                 let last = wanted.len() - 1;
                 wanted.swap(last - 1, last);
@@ -526,6 +538,32 @@ impl Maker {
         self.meeting = None;
     }
 
+    /// A change of the coding setting alone: before it an opening, after it that one's repeat, a
+    /// resend, and another opening with the same options.
+    fn turn_codings(&mut self, theme: &Theme) {
+        let Some(front) = self.script.session.listener.front() else { return self.open(theme) };
+        let mut settings = front.current_settings();
+        settings.codings = match settings.codings {
+            Codings::New => Codings::Both,
+            Codings::Both => Codings::New,
+        };
+        let (source, port) = self.new_name(theme);
+        let mut plan = self.plan(&source, port);
+        plan.options = self.options(theme, &source);
+        plan.sequence = self.script.rng.sequence();
+        plan.payload = self.script.rng.payload();
+        self.segment(theme, plan.clone());
+        let time = self.time(theme);
+        self.set(time, &settings);
+        self.segment(theme, plan.clone());
+        let opened = |slot: &Slot| slot.port() == port && slot.address(source.len()) == source;
+        if let Some(slot) = self.some_slot(opened) {
+            self.on_name(theme, "resend", &slot);
+        }
+        plan.source_port = self.some_port(theme);
+        self.segment(theme, plan);
+    }
+
     fn noise(&mut self, theme: &Theme) {
         let time = self.time(theme);
         let source = self.address();
@@ -607,6 +645,7 @@ impl Maker {
             room: rng.pick(&[1460, 1460, 1459, 100, 20, 10, 1, 0]),
             hold: rng.pick(theme.holds),
             mss: rng.pick(&[1460, 536, 537, 1459, 1220]),
+            codings: rng.pick(&[Codings::New, Codings::Both]),
         };
         if time.is_none() {
             if rng.percent(20) {
@@ -629,13 +668,23 @@ impl Maker {
                 at = self.bad_time();
             }
         }
+        self.set(at, &settings);
+    }
+
+    /// A settings call with these, now and then with a wrong word for the coding before it.
+    fn set(&mut self, time: u64, settings: &Settings) {
         let line = Line::new("settings")
-            .u64(at)
+            .u64(time)
             .text(if settings.on { "on" } else { "off" })
             .u32(settings.limit)
             .u32(settings.room)
             .u32(settings.hold)
-            .u32(settings.mss);
+            .u32(settings.mss)
+            .codings(settings.codings);
+        if self.script.rng.percent(6) {
+            let wrong = line.miscoded(&mut self.script.rng);
+            self.script.raw(&wrong);
+        }
         self.script.call(&line);
     }
 

@@ -1,7 +1,7 @@
 //! Segments as plans: right ones first, then damaged field by field.
 
 use super::Rng;
-use crate::wire;
+use crate::wire::{self, Coding, Codings};
 
 #[derive(Clone, Copy)]
 pub enum Sum {
@@ -136,21 +136,26 @@ pub fn area_with(rng: &mut Rng, wanted: &[Vec<u8>]) -> Vec<u8> {
             area.extend_from_slice(option);
         }
     }
-    let fill = rng.pick(&[wire::NO_OPERATION, wire::NO_OPERATION, wire::END_OF_LIST, 34, 2, 255]);
+    let fill = rng.pick(&[wire::NO_OPERATION, wire::NO_OPERATION, wire::END_OF_LIST, 34, 254, 2, 255]);
     area.resize(area.len().next_multiple_of(4), fill);
     area
 }
 
 /// A sound option of another kind.
 fn bystander(rng: &mut Rng) -> Vec<u8> {
-    match rng.below(7) {
+    match rng.below(8) {
         0 => vec![wire::NO_OPERATION],
         1 => vec![4, 2],
         2 => vec![3, 3, 7],
         3 => [&[8, 10][..], &rng.bytes(8)].concat(),
-        // these two kinds with lengths that don't count
+        // what is read, with lengths that don't count
         4 => option(rng, wire::MSS, &[2, 3, 5, 6, 8]),
         5 => option(rng, wire::FAST_OPEN, &[3, 4, 4, 5, 7, 9, 11, 17, 19, 20]),
+        6 if rng.percent(50) => {
+            let length = rng.pick(&[2, 3, 5, 6, 6, 7, 9, 11, 19, 21, 22]);
+            experiment(rng, wire::FAST_OPEN_MARK, length)
+        }
+        6 => other_experiment(rng),
         _ => {
             let kind = rng.within(5, 255) as u8;
             let kind = if kind == wire::FAST_OPEN { 35 } else { kind };
@@ -166,6 +171,92 @@ fn option(rng: &mut Rng, kind: u8, lengths: &[u8]) -> Vec<u8> {
     bytes
 }
 
+pub const CODINGS: [Coding; 2] = [Coding::New, Coding::Older];
+
+/// A coding that the setting counts.
+pub fn counted(rng: &mut Rng, codings: Codings) -> Coding {
+    match codings {
+        Codings::New => Coding::New,
+        Codings::Both => rng.pick(&CODINGS),
+    }
+}
+
+/// A coding that the setting counts, or now and then the older one even so.
+pub fn some_coding(rng: &mut Rng, codings: Codings) -> Coding {
+    if rng.percent(16) {
+        return Coding::Older;
+    }
+    counted(rng, codings)
+}
+
+/// An option of the experimental kind and this length with this mark, as far as it fits.
+fn experiment(rng: &mut Rng, mark: [u8; 2], length: usize) -> Vec<u8> {
+    let mut option = [&[wire::EXPERIMENT, length as u8][..], &mark].concat();
+    option.truncate(length.max(2));
+    option.extend(rng.bytes(length.saturating_sub(4)));
+    option
+}
+
+/// Two bytes that aren't Fast Open's: one bit away, the other way round, or quite different.
+fn other_mark(rng: &mut Rng) -> [u8; 2] {
+    let [high, low] = wire::FAST_OPEN_MARK;
+    let bit = 1 << rng.below(8);
+    rng.pick(&[[high ^ bit, low], [high, low ^ bit], [low, high], [high, high], [low, low], [0, 0]])
+}
+
+/// An option of another experiment, of a length that would count or not.
+pub fn other_experiment(rng: &mut Rng) -> Vec<u8> {
+    let (mark, length) = (other_mark(rng), rng.pick(&[4, 4, 5, 6, 8, 12, 12, 14, 20]));
+    experiment(rng, mark, length)
+}
+
+/// An option of the experimental kind, of any length and with any mark.
+fn wild_experiment(rng: &mut Rng) -> Vec<u8> {
+    let any = rng.index(41);
+    let length = rng.pick(&[any, any, any, any, any, 2, 3, 3, 4, 5, 6, 7, 8, 18, 20, 21, 22, 24]);
+    let mark = if rng.percent(70) { wire::FAST_OPEN_MARK } else { other_mark(rng) };
+    let mut option = experiment(rng, mark, length);
+    if length < 4 && rng.percent(75) {
+        // the whole mark, though the option ends before it does
+        option.truncate(2);
+        option.extend_from_slice(&mark);
+    }
+    option
+}
+
+/// An option area that is about the experimental kind: one such option, or one that mixes the
+/// codings up, beside options of both codings in any order. `cookie` is one that would be right.
+pub fn experiment_area(rng: &mut Rng, cookie: &[u8]) -> Vec<u8> {
+    let first = match rng.below(12) {
+        0 => Coding::New.option(&[&wire::FAST_OPEN_MARK[..], cookie].concat()),
+        1 => [&[wire::EXPERIMENT, 2 + cookie.len() as u8][..], cookie].concat(),
+        2 => [&[wire::EXPERIMENT, 4 + cookie.len() as u8][..], &other_mark(rng), cookie].concat(),
+        _ => wild_experiment(rng),
+    };
+    let mut options = vec![first];
+    for _ in 0..rng.below(3) {
+        let none: &[u8] = &[];
+        let cookie = rng.pick(&[cookie, cookie, cookie, none]);
+        let coding = rng.pick(&CODINGS);
+        options.insert(rng.pick(&[0, 1, 1, 1]), coding.option(cookie));
+    }
+    let mut area = options.concat();
+    if rng.percent(25) {
+        area.truncate(4 * rng.index(area.len().min(40) / 4 + 1));
+    } else {
+        pad_in_front(&mut area);
+    }
+    area
+}
+
+/// Whole words, of which there may be ten, so that the last option ends, or is cut, exactly at
+/// the end.
+fn pad_in_front(area: &mut Vec<u8>) {
+    let over = area.len().next_multiple_of(4) - area.len();
+    area.splice(0..0, std::iter::repeat_n(wire::NO_OPERATION, over));
+    area.truncate(40);
+}
+
 /// An option area of any sort: every kind and length, repeated, cut off, or plain noise.
 /// `cookie` is one that would be right.
 pub fn wild_area(rng: &mut Rng, cookie: &[u8]) -> Vec<u8> {
@@ -175,14 +266,11 @@ pub fn wild_area(rng: &mut Rng, cookie: &[u8]) -> Vec<u8> {
         return rng.bytes(room);
     }
     while area.len() < room {
-        match rng.below(12) {
+        match rng.below(13) {
             0 | 1 => area.push(wire::NO_OPERATION),
             2 if rng.percent(30) => area.push(wire::END_OF_LIST),
-            3 | 4 => {
-                area.extend_from_slice(&[wire::FAST_OPEN, 2 + cookie.len() as u8]);
-                area.extend_from_slice(cookie);
-            }
-            5 => area.extend_from_slice(&[wire::FAST_OPEN, 2]),
+            3 | 4 => area.extend(rng.pick(&CODINGS).option(cookie)),
+            5 => area.extend(rng.pick(&CODINGS).option(&[])),
             6 => {
                 let length = rng.below(41) as u8;
                 area.extend(option(rng, wire::FAST_OPEN, &[length]));
@@ -197,8 +285,9 @@ pub fn wild_area(rng: &mut Rng, cookie: &[u8]) -> Vec<u8> {
                 area.extend(option(rng, kind, &[length]));
             }
             10 => area.extend(bystander(rng)),
+            11 => area.extend(wild_experiment(rng)),
             _ => {
-                let kind = rng.pick(&[wire::FAST_OPEN, wire::MSS, 8, 255]);
+                let kind = rng.pick(&[wire::FAST_OPEN, wire::EXPERIMENT, wire::MSS, 8, 255]);
                 area.push(kind);
                 area.push(rng.pick(&[0, 1, 2, 3, 6, 10, 18, 38, 39, 40, 41, 255]));
             }
@@ -208,10 +297,7 @@ pub fn wild_area(rng: &mut Rng, cookie: &[u8]) -> Vec<u8> {
         // cut at the end
         area.truncate(room);
     } else {
-        // pad in front, so that the last option ends, or is cut, exactly at the end
-        let over = area.len().next_multiple_of(4) - area.len();
-        area.splice(0..0, std::iter::repeat_n(wire::NO_OPERATION, over));
-        area.truncate(40);
+        pad_in_front(&mut area);
     }
     area
 }
@@ -236,4 +322,40 @@ pub fn noise(rng: &mut Rng, source: &[u8], destination: &[u8], port: u16) -> Vec
         bytes[16..18].copy_from_slice(&sum.to_be_bytes());
     }
     bytes
+}
+
+#[cfg(test)]
+mod tests {
+    use super::*;
+    use std::collections::BTreeSet;
+
+    #[test]
+    fn experiment_areas_have_everything() {
+        let cookie = [1, 2, 3, 4, 5, 6, 7, 8];
+        let [new, older] = CODINGS.map(|coding| coding.option(&cookie));
+        let mut rng = Rng(1);
+        let mut met = BTreeSet::new();
+        let [mut new_first, mut older_first] = [0; 2];
+        for _ in 0..20_000 {
+            let area = experiment_area(&mut rng, &cookie);
+            assert!(area.len() <= 40 && area.len().is_multiple_of(4));
+            for (at, window) in area.windows(4).enumerate().filter(|(_, window)| window[0] == 254) {
+                let cut = at + usize::from(window[1]) > area.len();
+                let off = (window[2] ^ 0xf9).count_ones() + (window[3] ^ 0x89).count_ones();
+                met.insert((window[1], cut, off.min(2)));
+            }
+            let place = |option: &[u8]| area.windows(option.len()).position(|window| window == option);
+            if let (Some(new), Some(older)) = (place(&new), place(&older)) {
+                *(if new < older { &mut new_first } else { &mut older_first }) += 1;
+            }
+        }
+        for length in 0..=40 {
+            // with the mark, one bit away from it, and with quite another
+            for off in 0..=2 {
+                assert!(met.contains(&(length, false, off)), "{length} {off}");
+            }
+            assert!(met.contains(&(length, true, 0)) || length <= 4, "{length} cut off");
+        }
+        assert!(new_first >= 100 && older_first >= 100);
+    }
 }

@@ -48,7 +48,7 @@ judged c = c .before
 -- what the checks come to
 module _ (c : tie.After-check-answer) where
   abbrev checkedReply : Reply
-  checkedReply = CheckedReply (entry c .args .m) (entry c .args .time) (entry c .args .own .now) (entry c .args .server .now) (entry c .args .a) (entry c .args .seg .now)
+  checkedReply = CheckedReply (entry c .args .m) (entry c .args .time) (entry c .args .own .now) (entry c .args .server .now) (entry c .args .a) (entry c .args .seg .now) (entry c .args .codings)
 
 -- it is a count
 module _ (c : tie.After-n) where
@@ -63,31 +63,31 @@ module _ (c : tie.After-block-of) where
   named : c .block-of .result ≡ block (start .args .server .now)
   named =
       let a = start .args in
-      answer-kept (a .m) (a .time) (a .own .now) (a .server .now) (a .a) (a .seg .now) (acknowledged (counted c)) (c .block-of .ensures)
+      answer-kept (a .m) (a .time) (a .own .now) (a .server .now) (a .a) (a .seg .now) (a .codings) (acknowledged (counted c)) (c .block-of .ensures)
 
 -- the options were read
 module _ (c : tie.After-cookie) where
   abbrev named-at : tie.After-block-of
   named-at = blocked (parsed (area c))
 
-  brings : (c .cookie .result .now ≡ cookieIn (start named-at .args .seg .now))
-      × (parsed (area c) .segment-options .result .mss ≡ mssIn (start named-at .args .seg .now))
-  brings = brought-is (start named-at .args .seg .now) (parsed (area c) .segment-options .ensures) (area c .option-area .ensures) (c .cookie .ensures)
+  brings : (c .cookie .result .now ≡ cookieIn (start named-at .args .codings) (start named-at .args .seg .now))
+      × (parsed (area c) .segment-options .result .mss ≡ mssIn (start named-at .args .codings) (start named-at .args .seg .now))
+  brings = brought-is (start named-at .args .codings) (start named-at .args .seg .now) (parsed (area c) .segment-options .ensures) (area c .option-area .ensures) (c .cookie .ensures)
 
 learn-requires : tie.Need-learn-requires
-learn-requires c κs = rw (brings c .0) (brought-most (start (named-at c) .args .seg .now))
+learn-requires c κs = rw (brings c .0) (brought-most (start (named-at c) .args .codings) (start (named-at c) .args .seg .now))
 
 ban-if-requires : tie.Need-ban-if-requires
 ban-if-requires c κs =
     let b = named-at (brought (learnt c)) in
     let a = start b .args in
-    answer-time (a .m) (a .time) (a .own .now) (a .server .now) (a .a) (a .seg .now) (acknowledged (counted b))
+    answer-time (a .m) (a .time) (a .own .now) (a .server .now) (a .a) (a .seg .now) (a .codings) (acknowledged (counted b))
 
 returns : tie.Need-returns
 returns c =
     let p = c .before .before .before .before in
     let a = entry p .args in
-    answer-refused (a .m) (a .time) (a .own .now) (a .server .now) (a .a) (a .seg .now) (c .refused .ensures) (sym (p .check-answer .ensures) ∙ c .before .before .why .given .1)
+    answer-refused (a .m) (a .time) (a .own .now) (a .server .now) (a .a) (a .seg .now) (a .codings) (c .refused .ensures) (sym (p .check-answer .ensures) ∙ c .before .before .why .given .1)
 
 returns-2 : tie.Need-returns-2
 returns-2 c =
@@ -97,8 +97,8 @@ returns-2 c =
     let b = named-at o in
     let a = start b .args in
     let options = parsed (area o) .segment-options .ensures in
-    let negative = answer-negative (a .m) (a .time) (a .own .now) (a .server .now) (a .a) (a .seg .now) (acknowledged (counted b)) options (j .is-negative .ensures) in
-    answer-done (a .m) (a .time) (a .own .now) (a .server .now) (a .a) (a .seg .now) (acknowledged (counted b))
+    let negative = answer-negative (a .m) (a .time) (a .own .now) (a .server .now) (a .a) (a .seg .now) (a .codings) (acknowledged (counted b)) options (j .is-negative .ensures) in
+    answer-done (a .m) (a .time) (a .own .now) (a .server .now) (a .a) (a .seg .now) (a .codings) (acknowledged (counted b))
     (timed (checked (counted b)) .at-time .ensures) (named b) (brings o .0) (brings o .1) (l .learn .ensures) negative (c .ban-if .ensures)
 
 pub answer-spec : {M : Type 1} → statement M

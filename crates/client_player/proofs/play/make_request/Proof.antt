@@ -17,7 +17,7 @@ returns-2 c =
     rw (c .before .before .before .before .before .before .before .before .order2 .given .1) (rw (own, server, offered) at (r .0), rw (own, server, offered) at (r .1))
 
 returns-3 : tie.Need-returns-3
-returns-3 c = rw (c .before .before .before .before .before .order3 .given .1) (rw (c .before .before .before .first4 .ensures, c .before .before .first5 .ensures, c .before .first6 .ensures) at (c .answer .ensures), refl)
+returns-3 c = rw (c .before .before .before .before .before .before .order3 .given .1) (rw (c .before .before .before .before .first4 .ensures, c .before .before .before .first5 .ensures, c .before .before .first6 .ensures, c .before .codings-of .ensures) at (c .answer .ensures), refl)
 
 returns-4 : tie.Need-returns-4
 returns-4 c = rw (c .before .before .before .order4 .given .1) (rw (c .before .first7 .ensures) at (c .failed .ensures), refl)
@@ -29,5 +29,6 @@ make-request-spec =
     (λ c. search needs) (λ c κs. search needs) (λ c κs. search needs) (λ c. search needs) (λ c κs. search needs)
     (λ c κs. search needs) (λ c κs. search needs) (λ c κs. search needs) (λ c. search needs)
     (λ c κs. search needs) (λ c κs. search needs) (λ c κs. search needs) (λ c κs. search needs)
-    (λ c. search needs) (λ c κs. search needs) (λ c κs. search needs) returns (λ c. search needs) returns-2
+    (λ c κs. search needs) (λ c. search needs) (λ c κs. search needs) (λ c κs. search needs) returns
+    (λ c. search needs) returns-2
     returns-3 returns-4)

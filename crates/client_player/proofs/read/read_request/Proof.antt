@@ -2,9 +2,11 @@
 -- Assumes nothing.
 use Prim.Native.Nat.{ℕ}
 use mathlib.Core.Path.{_≡_, sym, _∙_}
+use mathlib.Core.Bool.{false}
 use mathlib.Core.List.{List}
+use mathlib.Core.Option.{some}
 use lib.ListN.{drop}
-use Rattle.text.specs.Argument.{firstCase}
+use Rattle.text.specs.Argument.{bothAt, firstCase}
 use Rattle.text.proofs.Arguments.{passed, taken}
 use Rattle.client_player.specs.Request.{cases, requestIn}
 use Rattle.client_player.proofs.Reading.{start-read, open-read, answer-read, failed-read}
@@ -39,6 +41,12 @@ line4 c = line3 (c .before .before .before)
 past4 : (c : tie.Else4) → requestIn (line4 c) ≡ firstCase (drop 4 (cases (line4 c)))
 past4 c = past3 (c .before .before .before) ∙ passed (drop 3 (cases (line4 c))) (sym (c .before .is-call4 .ensures) ∙ c .if4 .left)
 
+abbrev line5 : tie.Else5 → List ℕ
+line5 c = line4 (c .before .before .before)
+
+past5 : (c : tie.Else5) → requestIn (line5 c) ≡ firstCase (drop 5 (cases (line5 c)))
+past5 c = past4 (c .before .before .before) ∙ passed (drop 4 (cases (line5 c))) (sym (c .before .is-call5 .ensures) ∙ c .if5 .left)
+
 returns : tie.Need-returns
 unfolding requestIn
 returns c =
@@ -51,24 +59,31 @@ returns-2 : tie.Need-returns-2
 returns-2 c =
     let s = c .before .before .before .before .before .before .before .before .before .before .before .before .before .before .before .before .before .before .before .before in
     let r = c .before .before .before .before .before .before .read-answer .ensures in
-    answer-read (s .args .line .now) (s .args .a .now) (s .args .b .now) (s .args .d .now) _ _ _ (s .pre .0) (s .pre .1 .0) (s .pre .1 .1) (r .0) (r .1 .0) (r .1 .1 .0) (r .1 .1 .1)
+    answer-read (s .args .line .now) (s .args .a .now) (s .args .b .now) (s .args .d .now) _ _ _ (s .pre .0) (s .pre .1 .0) (s .pre .1 .1) (some false) (r .0) (r .1 .0) (r .1 .1 .0) (r .1 .1 .1)
     ∙ sym (past1 (c .before .before .before .before .before .before .before .before .before .before .before .before .before) ∙ taken (drop 1 (cases (s .args .line .now))) (sym (c .before .before .before .before .before .before .before .before .before .before .before .is-call2 .ensures) ∙ c .before .before .before .before .before .before .before .before .before .before .if2 .taken))
 
 returns-3 : tie.Need-returns-3
 returns-3 c =
-    let s = c .before .before .before .before .before .before .before .before .before .before .before .before .before .before .before .before .before in
-    let r = c .before .before .read-failed .ensures in
-    failed-read (s .args .line .now) (s .args .a .now) (s .args .b .now) (s .args .d .now) _ (s .args .b .now) (s .args .d .now) (s .pre .0) (s .pre .1 .0) (s .pre .1 .1) (r .0) (r .1)
-    ∙ sym (past2 (c .before .before .before .before .before .before .before) ∙ taken (drop 2 (cases (s .args .line .now))) (sym (c .before .before .before .before .before .is-call3 .ensures) ∙ c .before .before .before .before .if3 .taken))
+    let s = c .before .before .before .before .before .before .before .before .before .before .before .before .before .before .before .before .before .before .before .before .before .before .before .before in
+    let r = c .before .before .before .before .before .before .read-answer2 .ensures in
+    answer-read (s .args .line .now) (s .args .a .now) (s .args .b .now) (s .args .d .now) _ _ _ (s .pre .0) (s .pre .1 .0) (s .pre .1 .1) (bothAt 9 (s .args .line .now)) (rw (c .before .before .before .before .before .before .before .both-at .ensures) at (r .0)) (r .1 .0) (r .1 .1 .0) (r .1 .1 .1)
+    ∙ sym (past2 (c .before .before .before .before .before .before .before .before .before .before .before .before .before .before) ∙ taken (drop 2 (cases (s .args .line .now))) (sym (c .before .before .before .before .before .before .before .before .before .before .before .before .is-call3 .ensures) ∙ c .before .before .before .before .before .before .before .before .before .before .before .if3 .taken))
 
 returns-4 : tie.Need-returns-4
 returns-4 c =
-    let s = c .before .before .before .before .before .before .before .before .before .before .before .before .before .before .before .before .before in
-    start-read (s .args .line .now) (s .args .a .now) (s .args .b .now) (s .args .d .now) (s .args .a .now) (s .args .b .now) (s .args .d .now) (s .pre .0) (s .pre .1 .0) (s .pre .1 .1) (c .read-start .ensures)
-    ∙ sym (past3 (c .before .before .before .before) ∙ taken (drop 3 (cases (s .args .line .now))) (sym (c .before .before .is-call4 .ensures) ∙ c .before .if4 .taken))
+    let s = c .before .before .before .before .before .before .before .before .before .before .before .before .before .before .before .before .before .before .before .before in
+    let r = c .before .before .read-failed .ensures in
+    failed-read (s .args .line .now) (s .args .a .now) (s .args .b .now) (s .args .d .now) _ (s .args .b .now) (s .args .d .now) (s .pre .0) (s .pre .1 .0) (s .pre .1 .1) (r .0) (r .1)
+    ∙ sym (past3 (c .before .before .before .before .before .before .before) ∙ taken (drop 3 (cases (s .args .line .now))) (sym (c .before .before .before .before .before .is-call4 .ensures) ∙ c .before .before .before .before .if4 .taken))
 
 returns-5 : tie.Need-returns-5
-returns-5 c = sym (past4 c)
+returns-5 c =
+    let s = c .before .before .before .before .before .before .before .before .before .before .before .before .before .before .before .before .before .before .before .before in
+    start-read (s .args .line .now) (s .args .a .now) (s .args .b .now) (s .args .d .now) (s .args .a .now) (s .args .b .now) (s .args .d .now) (s .pre .0) (s .pre .1 .0) (s .pre .1 .1) (c .read-start .ensures)
+    ∙ sym (past4 (c .before .before .before .before) ∙ taken (drop 4 (cases (s .args .line .now))) (sym (c .before .before .is-call5 .ensures) ∙ c .before .if5 .taken))
+
+returns-6 : tie.Need-returns-6
+returns-6 c = sym (past5 c)
 
 pub read-request-spec : {M : Type 1} → statement M
 read-request-spec =
@@ -77,5 +92,6 @@ read-request-spec =
     (λ c. search needs) (λ c κs. search needs) (λ c κs. search needs) (λ c. search needs) (λ c. search needs)
     (λ c. search needs) returns (λ c. search needs) (λ c κs. search needs) (λ c κs. search needs)
     (λ c. search needs) (λ c. search needs) (λ c. search needs) returns-2 (λ c. search needs)
-    (λ c κs. search needs) (λ c κs. search needs) (λ c. search needs) returns-3 (λ c. search needs)
-    (λ c κs. search needs) (λ c κs. search needs) returns-4 returns-5)
+    (λ c κs. search needs) (λ c κs. search needs) (λ c κs. search needs) (λ c. search needs) (λ c. search needs)
+    (λ c. search needs) returns-3 (λ c. search needs) (λ c κs. search needs) (λ c κs. search needs)
+    (λ c. search needs) returns-4 (λ c. search needs) (λ c κs. search needs) (λ c κs. search needs) returns-5 returns-6)

@@ -234,15 +234,16 @@ returns-5 c =
     (sym (counted .counts .ensures) ∙ not-true _ (made .before .if3 .taken)) (made .open-plain .ensures) (replicate 8 0)) (wrote .write-from2 .ensures)
 
 mul-new-2 : tie.Need-mul-new-2 Inv-loop μ-loop Inv-loop2 μ-loop2
-mul-new-2 c = omega (arith, vacant (offered (c .before .before .before .before .before .before .before .before .before .before)))
+mul-new-2 c = omega (arith, vacant (offered (c .before .before .before .before .before .before .before .before .before .before .before)))
 
 element-set-from-new-2 : tie.Need-element-set-from-new-2 Inv-loop μ-loop Inv-loop2 μ-loop2
-element-set-from-new-2 c = omega (arith, vacant (offered (c .before .before .before .before .before .before .before .before .before .before)))
+element-set-from-new-2 c = omega (arith, vacant (offered (c .before .before .before .before .before .before .before .before .before .before .before)))
 
 returns-6 : tie.Need-returns-6 Inv-loop μ-loop Inv-loop2 μ-loop2
 returns-6 c =
     let wrote = c .before .before in
-    let made = wrote .before .before .before .before in
+    let coded = wrote .before in
+    let made = coded .before .before .before .before in
     let counted = made .before .before .before .before in
     let told = offered counted in
     let o = new told in
@@ -250,7 +251,7 @@ returns-6 c =
     let a = start (n k) .args in
     written-over (a .out .now) (opened-by-option (a .l) (a .time) (a .src .now) (a .seg .now) (a .iss) (length (a .out .now)) (read (n k) .0) (read (n k) .1) (block-is k) (kind (n k) .kind-of .ensures) (is-one o)
     (scan-is o) (slot-is o) (o .check-opening .ensures) (told .enum-told2 .given .1) (counted .before .before .cookies-enabled .ensures) (counted .before .before .before .area-within .ensures) (counted .before .counted-option .ensures)
-    (sym (counted .counts .ensures) ∙ not-false _ (made .before .before .before .if3 .left)) (made .before .payload-after .ensures) (made .open-by-option .result) (made .open-by-option .ensures)) (wrote .write-from3 .ensures)
+    (sym (counted .counts .ensures) ∙ not-false _ (made .before .before .before .if3 .left)) (made .before .payload-after .ensures) (coded .coding-of .ensures) (made .open-by-option .result) (made .open-by-option .ensures)) (wrote .write-from3 .ensures)
 
 loop2-holds : tie.Need-loop2-holds Inv-loop μ-loop Inv-loop2 μ-loop2
 loop2-holds c =
@@ -309,7 +310,7 @@ segment-spec =
     (λ c. search needs) returns-4 (λ c. search needs) (λ c κs. search needs) (λ c κs. search needs)
     (λ c κs. search needs) (λ c κs. search needs) (λ c κs. search needs) (λ c κs. search needs) mul-new
     element-set-from-new (λ c. search needs) returns-5 (λ c κs. search needs) (λ c κs. search needs)
-    (λ c κs. search needs) mul-new-2 element-set-from-new-2 (λ c. search needs) returns-6 loop2-holds
+    (λ c κs. search needs) (λ c κs. search needs) mul-new-2 element-set-from-new-2 (λ c. search needs) returns-6 loop2-holds
     (λ c. search needs) (λ c. search needs) (λ c κs. search needs) (λ c. search needs) (λ c. search needs) loop2-again
     (λ c κs. search needs) mul-s-4 element-copy-out-s-4 (λ c κs. search needs) (λ c κs. search needs)
     (λ c. search needs) (λ c κs. search needs) returns-7 (λ c. search needs) (λ c. search needs) add-later-slot

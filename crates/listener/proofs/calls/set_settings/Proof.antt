@@ -11,8 +11,8 @@ use Rattle.listener.proofs.calls.set_settings.Tie as tie
 returns : tie.Need-returns
 returns c = c .refused2 .ensures ∙ sym (settings-bad _ _ _ (sym (c .before .before .before .before .before .check-time .ensures) ∙ c .before .before .before .enum-told .given .1) (sym (c .before .before .is-in-range .ensures) ∙ not-true _ (c .before .if1 .taken)))
 
-cast-t12 : tie.Need-cast-t12
-cast-t12 c = omega (arith, mss-most _ (sym (c .before .before .is-in-range .ensures) ∙ not-false _ (c .before .if1 .left)))
+cast-t13 : tie.Need-cast-t13
+cast-t13 c = omega (arith, mss-most _ (sym (c .before .before .is-in-range .ensures) ∙ not-false _ (c .before .if1 .left)))
 
 returns-2 : tie.Need-returns-2
 returns-2 c = c .refused .ensures ∙ sym (settings-stopped _ _ _ (sym (c .before .before .before .before .check-time .ensures) ∙ c .before .before .why .given .1))
@@ -27,4 +27,4 @@ set-settings-spec =
     tie.close
     (tie.spec
     (λ c κs. search needs) (λ c. search needs) (λ c κs. search needs) (λ c. search needs) (λ c κs. search needs)
-    (λ c κs. search needs) returns cast-t12 (λ c κs. search needs) returns-2 returns-3)
+    (λ c κs. search needs) returns cast-t13 (λ c κs. search needs) returns-2 returns-3)

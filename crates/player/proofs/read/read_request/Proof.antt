@@ -1,8 +1,10 @@
 -- `player::read::read_request` meets its contract: the tests say which line it is, and what was read is the request that it is.
 -- Assumes nothing.
 use mathlib.Core.Path.{_≡_, sym, _∙_}
+use mathlib.Core.Bool.{false}
+use mathlib.Core.Option.{some}
 use lib.ListN.{drop}
-use Rattle.text.specs.Argument.{firstCase}
+use Rattle.text.specs.Argument.{bothAt, firstCase}
 use Rattle.text.proofs.Arguments.{passed, taken}
 use Rattle.player.specs.Request.{cases, requestIn}
 use Rattle.player.proofs.Reading.{settings-read, start-read, segment-read}
@@ -31,6 +33,12 @@ start3 c = start2 (c .before .before .before)
 past3 : (c : tie.Else3) → requestIn (start3 c .args .line .now) ≡ firstCase (drop 3 (cases (start3 c .args .line .now)))
 past3 c = past2 (c .before .before .before) ∙ passed (drop 2 (cases (start3 c .args .line .now))) (sym (c .before .is-call3 .ensures) ∙ c .if3 .left)
 
+abbrev start4 : tie.Else4 → tie.Start
+start4 c = start3 (c .before .before .before)
+
+past4 : (c : tie.Else4) → requestIn (start4 c .args .line .now) ≡ firstCase (drop 4 (cases (start4 c .args .line .now)))
+past4 c = past3 (c .before .before .before) ∙ passed (drop 3 (cases (start4 c .args .line .now))) (sym (c .before .is-call4 .ensures) ∙ c .if4 .left)
+
 returns : tie.Need-returns
 unfolding requestIn
 returns c =
@@ -49,13 +57,19 @@ returns-2 c =
 returns-3 : tie.Need-returns-3
 returns-3 c =
     let s = start2 (c .before .before .before .before) in
-    settings-read (s .args .line .now) (s .args .a .now) (s .pre .0) (s .args .a .now) (s .args .b .now) (c .read-settings .ensures)
+    settings-read (s .args .line .now) (s .args .a .now) (s .pre .0) (s .args .a .now) (s .args .b .now) (some false) (c .read-settings .ensures)
     ∙ sym (past2 (c .before .before .before .before) ∙ taken (drop 2 (cases (s .args .line .now))) (sym (c .before .before .is-call3 .ensures) ∙ c .before .if3 .taken))
 
 returns-4 : tie.Need-returns-4
 returns-4 c =
-    let s = start3 (c .before .before .before .before) in
-    c .before .before .read-named .ensures (s .args .b .now) ∙ sym (past3 (c .before .before .before .before))
+    let s = start3 (c .before .before .before .before .before) in
+    settings-read (s .args .line .now) (s .args .a .now) (s .pre .0) (s .args .a .now) (s .args .b .now) (bothAt 7 (s .args .line .now)) (rw (c .before .both-at .ensures) at (c .read-settings2 .ensures))
+    ∙ sym (past3 (c .before .before .before .before .before) ∙ taken (drop 3 (cases (s .args .line .now))) (sym (c .before .before .before .is-call4 .ensures) ∙ c .before .before .if4 .taken))
+
+returns-5 : tie.Need-returns-5
+returns-5 c =
+    let s = start4 (c .before .before .before .before) in
+    c .before .before .read-named .ensures (s .args .b .now) ∙ sym (past4 (c .before .before .before .before))
 
 pub read-request-spec : {M : Type 1} → statement M
 read-request-spec =
@@ -64,4 +78,5 @@ read-request-spec =
     (λ c. search needs) (λ c κs. search needs) (λ c κs. search needs) (λ c. search needs) (λ c. search needs)
     returns (λ c. search needs) (λ c κs. search needs) (λ c κs. search needs) (λ c. search needs)
     (λ c. search needs) returns-2 (λ c. search needs) (λ c κs. search needs) (λ c κs. search needs) returns-3
-    (λ c κs. search needs) (λ c. search needs) returns-4)
+    (λ c. search needs) (λ c κs. search needs) (λ c κs. search needs) (λ c κs. search needs) returns-4
+    (λ c κs. search needs) (λ c. search needs) returns-5)

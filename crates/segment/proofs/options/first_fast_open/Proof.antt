@@ -11,10 +11,10 @@ returns : tie.Need-returns
 returns c = search needs
 
 returns-2 : tie.Need-returns-2
-returns-2 c = search needs
+returns-2 c = ap (λ (f : FastOpenOption). firstFastOpen f (c .before .before .before .args .next)) (sym (c .before .found .given .1))
 
 returns-3 : tie.Need-returns-3
-returns-3 c = ap (λ (f : FastOpenOption). firstFastOpen f (c .before .before .before .args .next)) (sym (c .before .found .given .1))
+returns-3 c = ap (λ (f : FastOpenOption). firstFastOpen f (c .before .before .before .args .next)) (sym (c .before .found2 .given .1))
 
 pub first-fast-open-spec : {M : Type 1} → statement M
 first-fast-open-spec =

@@ -12,14 +12,14 @@ returns : tie.Need-returns
 unfolding optionsOf
 returns c =
     let d = c .before .before in
-    rw (sym (c .before .has-syn .ensures) ∙ c .if1 .taken) (d .read-options .ensures ∙ ap readOptions (d .before .option-area .ensures))
+    rw (sym (c .before .has-syn .ensures) ∙ c .if1 .taken) (d .read-options .ensures ∙ ap (readOptions _) (d .before .option-area .ensures))
 
 returns-2 : tie.Need-returns-2
 unfolding optionsOf
 returns-2 c =
     let d = c .before .before in
     rw (sym (c .before .has-syn .ensures) ∙ c .if1 .left)
-    (ap (λ (o : Options). ifSyn false o) (d .read-options .ensures ∙ ap readOptions (d .before .option-area .ensures)))
+    (ap (λ (o : Options). ifSyn false o) (d .read-options .ensures ∙ ap (readOptions _) (d .before .option-area .ensures)))
 
 pub segment-options-spec : {M : Type 1} → statement M
 segment-options-spec =

@@ -11,7 +11,7 @@ returns : tie.Need-returns
 returns c =
     let a = c .before .before .before .before .before .before .before .before .before .before .before .args in
     let o = c .before .before .before .before .before .before .put-options .ensures in
-    (o .0, body (a .out .now) (optionBytes (a .f .mss) (a .f .fast) (a .cookie .now)) _ (a .payload .now) _ _ (omega arith) (o .0) (o .1) (omega arith) (c .before .before .copy .ensures .1))
+    (o .0, body (a .out .now) (optionBytes (a .f .mss) (a .f .fast) (a .f .coding) (a .cookie .now)) _ (a .payload .now) _ _ (omega arith) (o .0) (o .1) (omega arith) (c .before .before .copy .ensures .1))
 
 pub put-body-spec : {M : Type 1} → statement M
 put-body-spec =

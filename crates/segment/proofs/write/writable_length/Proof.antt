@@ -21,14 +21,14 @@ unfolding canWrite
 returns-2 c =
     let a = c .before .before .before .before .before .before .before .before .args in
     let f = sym (c .before .before .before .is-one-family .ensures) ∙ not-false _ (c .before .before .if1 .left) in
-    rw (f, not-allowed (a .f .fast) (length (a .cookie .now)) _ (c .before .option-length .ensures .0) (c .if2 .taken))
+    rw (f, not-allowed (a .f .fast) (a .f .coding) (length (a .cookie .now)) _ (c .before .option-length .ensures .0) (c .if2 .taken))
 
 returns-3 : tie.Need-returns-3
 unfolding canWrite
 returns-3 c =
     let a = c .before .before .before .before .before .before .before .before .before .args in
     let f = sym (c .before .before .before .before .is-one-family .ensures) ∙ not-false _ (c .before .before .before .if1 .left) in
-    let k = is-allowed (a .f .mss) (a .f .fast) (a .cookie .now) _ (c .before .before .option-length .ensures .0) (c .before .if2 .left) in
+    let k = is-allowed (a .f .mss) (a .f .fast) (a .f .coding) (a .cookie .now) _ (c .before .before .option-length .ensures .0) (c .before .if2 .left) in
     let h : 1520 < lengthFor (a .f) (a .cookie .now) (a .payload .now) = omega arith in
     rw (f, k .0, lt-leb _ _ h)
 
@@ -37,7 +37,7 @@ unfolding canWrite
 returns-4 c =
     let a = c .before .before .before .before .before .before .before .before .before .before .args in
     let f = sym (c .before .before .before .before .before .is-one-family .ensures) ∙ not-false _ (c .before .before .before .before .if1 .left) in
-    let k = is-allowed (a .f .mss) (a .f .fast) (a .cookie .now) _ (c .before .before .before .option-length .ensures .0) (c .before .before .if2 .left) in
+    let k = is-allowed (a .f .mss) (a .f .fast) (a .f .coding) (a .cookie .now) _ (c .before .before .before .option-length .ensures .0) (c .before .before .if2 .left) in
     let l : a .out-len < lengthFor (a .f) (a .cookie .now) (a .payload .now) = omega arith in
     rw (f, k .0, lt-leb _ _ l, and-false)
 
@@ -46,7 +46,7 @@ unfolding canWrite
 returns-5 c =
     let a = c .before .before .before .before .before .before .before .before .before .before .args in
     let f = sym (c .before .before .before .before .before .is-one-family .ensures) ∙ not-false _ (c .before .before .before .before .if1 .left) in
-    let k = is-allowed (a .f .mss) (a .f .fast) (a .cookie .now) _ (c .before .before .before .option-length .ensures .0) (c .before .before .if2 .left) in
+    let k = is-allowed (a .f .mss) (a .f .fast) (a .f .coding) (a .cookie .now) _ (c .before .before .before .option-length .ensures .0) (c .before .before .if2 .left) in
     let h : lengthFor (a .f) (a .cookie .now) (a .payload .now) ≤ 1520 = omega arith in
     let l : lengthFor (a .f) (a .cookie .now) (a .payload .now) ≤ a .out-len = omega arith in
     rw (f, k .0, le-leb _ _ h, le-leb _ _ l) (omega arith)

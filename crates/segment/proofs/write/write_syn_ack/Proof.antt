@@ -28,7 +28,7 @@ returns c =
     let r = d .before .before .before .before .args in
     let a = r .a in
     as-syn-ack (r .src .now) (r .dst .now) _ (r .out .now) _ a _ _ (c .before .before .write-segment .ensures)
-    (ap (λ (k : ℕ). record { source = a .source; dest = a .dest; seq = a .iss; ack = k; flags = SYN + ACK; mss = a .mss; fast = a .fresh }) (d .next-after .ensures))
+    (ap (λ (k : ℕ). record { source = a .source; dest = a .dest; seq = a .iss; ack = k; flags = SYN + ACK; mss = a .mss; fast = a .fresh; coding = a .coding }) (d .next-after .ensures))
 
 pub write-syn-ack-spec : {M : Type 1} → statement M
 write-syn-ack-spec =
