@@ -7,6 +7,7 @@ use native.Mathlib.Omega.{arith}
 use lib.Dec.{ltb}
 use Rattle.segment.specs.Header.{fieldsOf, kindOf, optionArea}
 use Rattle.segment.specs.Options.{readOptions, codingOf}
+use Rattle.segment.specs.Used.{isCounted}
 use Rattle.segment.specs.declared.refusal.Refusal.{Refusal}
 use Rattle.segment.specs.declared.refusal.Check.{Check}
 use Rattle.segment.specs.declared.refusal.Check.the-variants.{Clear, Refused}
@@ -25,7 +26,7 @@ use Rattle.protocol.specs.declared.state.Keys.{Keys}
 use Rattle.protocol.specs.declared.state.View.{View}
 use Rattle.protocol.proofs.Cookie.{carried-syn, never-right, no-cookie}
 use Rattle.protocol.proofs.Openings.{early-is, fresh-is}
-use Rattle.decisions.specs.Parts.{hasKind, isOpening, openingChecks, openingCheck, enabledWith, countedIn, isCounted, isFreshFor, laterChecks, laterEvent, laterSlot}
+use Rattle.decisions.specs.Parts.{hasKind, isOpening, openingChecks, openingCheck, enabledWith, countedIn, isFreshFor, laterChecks, laterEvent, laterSlot}
 use Rattle.decisions.specs.declared.checks.OpeningCheck.the-variants as openings
 
 -- Kinds

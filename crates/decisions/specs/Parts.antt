@@ -12,7 +12,7 @@ use Rattle.segment.specs.declared.refusal.Check.{Check}
 use Rattle.segment.specs.declared.refusal.Check.the-variants.{Clear, Refused}
 use Rattle.segment.specs.declared.options.Codings.{Codings}
 use Rattle.segment.specs.declared.options.FastOpenOption.{FastOpenOption}
-use Rattle.segment.specs.declared.options.FastOpenOption.the-variants.{Absent, Request, Cookie}
+use Rattle.segment.specs.declared.options.FastOpenOption.the-variants.{Absent}
 use Rattle.segment.specs.declared.header.Header.{Header}
 use Rattle.segment.specs.declared.header.Kind.{Kind}
 use Rattle.segment.specs.declared.header.Kind.the-variants.{Syn, Rst, Ack, Other}
@@ -62,11 +62,6 @@ enabledWith g pending = g .on && ltb pending (g .limit)
 -- the option by which a new opening is answered, from its option area: none where cookies are not enabled
 abbrev pub countedIn : Bool → Codings → List ℕ → FastOpenOption
 countedIn enabled g area = cond enabled (readOptions g area .fast) Absent
-
-abbrev pub isCounted : FastOpenOption → Bool
-isCounted Absent = false
-isCounted (Request coding) = true
-isCounted (Cookie coding at len) = true
 
 -- a fresh cookie goes with the SYN-ACK to an option
 abbrev pub isFreshFor : Keys → List ℕ → Carried → Bool

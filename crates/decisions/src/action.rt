@@ -20,7 +20,7 @@ ghost use lib.ListN.{length};
 ghost use Rattle.protocol.specs.Cookie.{cookieUnder, found, right};
 ghost use Rattle.protocol.specs.Table.{newSlot};
 ghost use Rattle.protocol.specs.Step.{newEvent, newStatus};
-ghost use Rattle.decisions.specs.Parts.{isOpening, enabledWith, countedIn, isCounted, isFreshFor, laterEvent, laterSlot};
+ghost use Rattle.decisions.specs.Parts.{isOpening, enabledWith, countedIn, isFreshFor, laterEvent, laterSlot};
 
 // Whether a segment asks for a connection.
 pub fn is_opening(kind: Kind) -> bool
@@ -70,17 +70,6 @@ pub fn counted_option(enabled: bool, codings: Codings, area: &[u8]) -> FastOpenO
     }
     let options = read_options(codings, area);
     options.fast
-}
-
-// Whether there is one.
-pub fn counts(fast: FastOpenOption) -> bool
-    ensures { λ r. ⌜ r ≡ isCounted fast ⌝ }
-{
-    match fast {
-        FastOpenOption::Absent => false,
-        FastOpenOption::Request(_) => true,
-        FastOpenOption::Cookie { .. } => true,
-    }
 }
 
 // A new connection's slot, where no option counts.

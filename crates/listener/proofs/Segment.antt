@@ -10,6 +10,7 @@ use Rattle.lists.proofs.Elements.{set-same}
 use Rattle.segment.specs.Refusal.{refusal}
 use Rattle.segment.specs.Header.{malformed, fieldsOf, kindOf, optionArea, payloadOf}
 use Rattle.segment.specs.Options.{codingOf}
+use Rattle.segment.specs.Used.{isCounted}
 use Rattle.segment.specs.Write.{synAckBytes}
 use Rattle.segment.specs.declared.refusal.Refusal.{Refusal}
 use Rattle.segment.specs.declared.refusal.Refusal.the-variants.{Flags}
@@ -41,7 +42,7 @@ use Rattle.protocol.specs.declared.slots.Scan.{Scan}
 use Rattle.protocol.proofs.Table.{not-free}
 use Rattle.protocol.proofs.Step.{refusedWith, segment-refused, segment-writes-none, segment-writes, wired-formed}
 use Rattle.table.proofs.ScanOf.{in-table}
-use Rattle.decisions.specs.Parts.{hasKind, isOpening, openingChecks, openingCheck, enabledWith, countedIn, isCounted, laterChecks, laterEvent, laterSlot}
+use Rattle.decisions.specs.Parts.{hasKind, isOpening, openingChecks, openingCheck, enabledWith, countedIn, laterChecks, laterEvent, laterSlot}
 use Rattle.decisions.specs.declared.action.Opened.{Opened}
 use Rattle.decisions.specs.declared.checks.OpeningCheck.{OpeningCheck}
 use Rattle.decisions.specs.declared.checks.OpeningCheck.the-variants as openings

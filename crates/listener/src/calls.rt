@@ -7,7 +7,6 @@
 use cipher::expand_key;
 use decisions::action::cookies_enabled;
 use decisions::action::counted_option;
-use decisions::action::counts;
 use decisions::action::is_opening;
 use decisions::action::later_event;
 use decisions::action::later_slot;
@@ -46,6 +45,7 @@ use segment::header::payload_after;
 use segment::options::Coding;
 use segment::options::Codings;
 use segment::options::coding_of;
+use segment::options::is_counted;
 use segment::refusal::Check;
 use segment::refusal::Refusal;
 use table::scan::count_if;
@@ -247,7 +247,7 @@ pub fn segment(l: Listener, time: u64, src: &[u8], seg: &[u8], iss: u32, out: &m
                             area,
                         );
                         // Without an option no key is read.
-                        if !counts(fast) {
+                        if !is_counted(fast) {
                             let new = open_plain(b, h, iss);
                             let cookie = [0u8; 8];
                             let written = write_from(
@@ -456,17 +456,9 @@ pub fn resend(l: Listener, time: u64, addr: &[u8], port: u16, out: &mut [u8]) ->
                 return refused(next, Refusal::NoConnection);
             }
             let settings = next.settings;
+            let mss = settings.mss;
             let cookie = [0u8; 8];
-            let written = write_from(
-                out,
-                local,
-                settings.mss,
-                addr,
-                slot,
-                false,
-                Coding::New,
-                cookie,
-            );
+            let written = write_from(out, local, mss, addr, slot, false, Coding::New, cookie);
             next.clock = time;
             return Outcome {
                 listener: next,

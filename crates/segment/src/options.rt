@@ -6,7 +6,8 @@ use crate::number::word_at;
 ghost use mathlib.Core.Path.{_≡_};
 ghost use Prim.Native.Nat.{_+_, _≤_};
 ghost use lib.ListN.{length};
-ghost use Rattle.segment.specs.Options.{mssOption, isCookieLength, cookieAt, isIn, countsCoding, codingsOf, fastOpenOption, firstMss, firstFastOpen, withOption, readOptions, optionsOf, cookieBytes, codingOf};
+ghost use Rattle.segment.specs.Options.{mssOption, isCookieLength, cookieAt, isIn, countsCoding, codingsOf, fastOpenOption, firstMss, readOptions, optionsOf, cookieBytes, codingOf};
+ghost use Rattle.segment.specs.Used.{isCounted, firstUsed, optionAt, foundAt, Used};
 
 // The own MSS that an end may be set to lies between these.
 pub const LEAST_MSS: u32 = 536;
@@ -55,16 +56,6 @@ pub fn first_mss(found: Mss, next: Mss) -> Mss
     match found {
         Mss::NotGiven => next,
         Mss::Given(v) => Mss::Given(v),
-    }
-}
-
-fn first_fast_open(found: FastOpenOption, next: FastOpenOption) -> FastOpenOption
-    ensures { λ r. ⌜ r ≡ firstFastOpen found next ⌝ }
-{
-    match found {
-        FastOpenOption::Absent => next,
-        FastOpenOption::Request(c) => FastOpenOption::Request(c),
-        FastOpenOption::Cookie { coding, at, len } => FastOpenOption::Cookie { coding, at, len },
     }
 }
 
@@ -157,53 +148,92 @@ fn fast_open_option(codings: Codings, area: &[u8], i: usize, len: usize) -> Fast
     FastOpenOption::Absent
 }
 
-// What is found so far, with the option of `len` bytes at `i`.
-fn with_option(codings: Codings, found: Options, area: &[u8], i: usize, len: usize) -> Options
-    requires { ⌜ (2 ≤ len) × (i + len ≤ length (now area)) ⌝ }
-    ensures { λ r. ⌜ r ≡ withOption codings found (now (area .entry)) i len ⌝ }
+// Whether there is an option.
+pub fn is_counted(fast: FastOpenOption) -> bool
+    ensures { λ r. ⌜ r ≡ isCounted fast ⌝ }
 {
-    let mss = found.mss;
-    let fast = found.fast;
-    Options {
-        mss: first_mss(mss, mss_option(area, i, len)),
-        fast: first_fast_open(fast, fast_open_option(codings, area, i, len)),
+    match fast {
+        FastOpenOption::Absent => false,
+        FastOpenOption::Request(_) => true,
+        FastOpenOption::Cookie { .. } => true,
     }
 }
 
-// Reads an option area. Where a length does not fit, the reading ends and what was found before stands.
-pub fn read_options(codings: Codings, area: &[u8]) -> Options
-    ensures { λ r. ⌜ r ≡ readOptions codings (now (area .entry)) ⌝ }
+// What one pass over an area finds: the segment size, and where the Fast Open option begins that is used, counted from 1; 0 is none.
+struct Places {
+    mss: Mss,
+    used: usize,
+}
+
+// Where it begins, with the option of `len` bytes at `i` besides.
+fn first_used(used: usize, codings: Codings, area: &[u8], i: usize, len: usize) -> usize
+    requires { ⌜ (2 ≤ len) × (i + len ≤ length (now area)) ⌝ }
+    ensures { λ r. ⌜ r ≡ firstUsed codings (now (area .entry)) used i len ⌝ }
+{
+    if used == 0 {
+        if is_counted(fast_open_option(codings, area, i, len)) {
+            return i + 1;
+        }
+    }
+    used
+}
+
+// The option that begins there.
+fn option_at(codings: Codings, area: &[u8], used: usize) -> FastOpenOption
+    requires { ⌜ Used codings (now area) used ⌝ }
+    ensures { λ r. ⌜ r ≡ optionAt codings (now (area .entry)) used ⌝ }
+{
+    if 0 < used {
+        let len = area[used] as usize;
+        return fast_open_option(codings, area, used - 1, len);
+    }
+    FastOpenOption::Absent
+}
+
+// Goes over an option area. Where a length does not fit, the reading ends and what was found before stands.
+fn find_options(codings: Codings, area: &[u8]) -> Places
+    ensures { λ r. ⌜ (Used codings (now (area .entry)) (r .used)) × (foundAt codings (now (area .entry)) (r .mss) (r .used) ≡ readOptions codings (now (area .entry))) ⌝ }
 {
     let n = area.len();
-    let mut found = Options {
-        mss: Mss::NotGiven,
-        fast: FastOpenOption::Absent,
-    };
+    let mut mss = Mss::NotGiven;
+    let mut used: usize = 0;
     let mut i = 0;
     while i < n {
         let kind = area[i];
         if kind == 0 {
-            return found;
+            return Places { mss, used };
         }
         if kind == 1 {
             i += 1;
             continue;
         }
         if n - i < 2 {
-            return found;
+            return Places { mss, used };
         }
         let len = area[i + 1] as usize;
         if len < 2 {
-            return found;
+            return Places { mss, used };
         }
         if n - i < len {
-            return found;
+            return Places { mss, used };
         }
-        let next = with_option(codings, found, area, i, len);
-        found = next;
+        let size = first_mss(mss, mss_option(area, i, len));
+        let place = first_used(used, codings, area, i, len);
+        mss = size;
+        used = place;
         i += len;
     }
-    found
+    Places { mss, used }
+}
+
+// Reads an option area.
+pub fn read_options(codings: Codings, area: &[u8]) -> Options
+    ensures { λ r. ⌜ r ≡ readOptions codings (now (area .entry)) ⌝ }
+{
+    let found = find_options(codings, area);
+    let mss = found.mss;
+    let fast = option_at(codings, area, found.used);
+    Options { mss, fast }
 }
 
 // The options of a segment that count: without SYN no Fast Open option does, and a malformed segment has none.

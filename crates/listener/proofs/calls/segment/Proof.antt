@@ -120,7 +120,7 @@ module _ (c : tie.After-enum-told2 Inv-loop μ-loop Inv-loop2 μ-loop2) where
       (new .check-opening .ensures) (c .enum-told2 .given .1)
 
 -- Whether an option counts is known
-abbrev offered : tie.After-counts Inv-loop μ-loop Inv-loop2 μ-loop2 → tie.After-enum-told2 Inv-loop μ-loop Inv-loop2 μ-loop2
+abbrev offered : tie.After-is-counted Inv-loop μ-loop Inv-loop2 μ-loop2 → tie.After-enum-told2 Inv-loop μ-loop Inv-loop2 μ-loop2
 offered c = c .before .before .before .before
 
 -- A later segment: the search is over, past the table or at the name
@@ -231,7 +231,7 @@ returns-5 c =
     let a = start (n k) .args in
     written-over (a .out .now) (opened-plain (a .l) (a .time) (a .src .now) (a .seg .now) (a .iss) (length (a .out .now)) (read (n k) .0) (read (n k) .1) (block-is k) (kind (n k) .kind-of .ensures) (is-one o)
     (scan-is o) (slot-is o) (o .check-opening .ensures) (told .enum-told2 .given .1) (counted .before .before .cookies-enabled .ensures) (counted .before .before .before .area-within .ensures) (counted .before .counted-option .ensures)
-    (sym (counted .counts .ensures) ∙ not-true _ (made .before .if3 .taken)) (made .open-plain .ensures) (replicate 8 0)) (wrote .write-from2 .ensures)
+    (sym (counted .is-counted .ensures) ∙ not-true _ (made .before .if3 .taken)) (made .open-plain .ensures) (replicate 8 0)) (wrote .write-from2 .ensures)
 
 mul-new-2 : tie.Need-mul-new-2 Inv-loop μ-loop Inv-loop2 μ-loop2
 mul-new-2 c = omega (arith, vacant (offered (c .before .before .before .before .before .before .before .before .before .before .before)))
@@ -251,7 +251,7 @@ returns-6 c =
     let a = start (n k) .args in
     written-over (a .out .now) (opened-by-option (a .l) (a .time) (a .src .now) (a .seg .now) (a .iss) (length (a .out .now)) (read (n k) .0) (read (n k) .1) (block-is k) (kind (n k) .kind-of .ensures) (is-one o)
     (scan-is o) (slot-is o) (o .check-opening .ensures) (told .enum-told2 .given .1) (counted .before .before .cookies-enabled .ensures) (counted .before .before .before .area-within .ensures) (counted .before .counted-option .ensures)
-    (sym (counted .counts .ensures) ∙ not-false _ (made .before .before .before .if3 .left)) (made .before .payload-after .ensures) (coded .coding-of .ensures) (made .open-by-option .result) (made .open-by-option .ensures)) (wrote .write-from3 .ensures)
+    (sym (counted .is-counted .ensures) ∙ not-false _ (made .before .before .before .if3 .left)) (made .before .payload-after .ensures) (coded .coding-of .ensures) (made .open-by-option .result) (made .open-by-option .ensures)) (wrote .write-from3 .ensures)
 
 loop2-holds : tie.Need-loop2-holds Inv-loop μ-loop Inv-loop2 μ-loop2
 loop2-holds c =

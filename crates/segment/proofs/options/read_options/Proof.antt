@@ -1,109 +1,19 @@
--- `segment::options::read_options` meets its contract: one way on and five ways out, each a case of one step.
+-- `segment::options::read_options` meets its contract: what the pass found, and the option at its place.
 -- Assumes nothing.
-use borrow.Author.Needs.{needs}
-use borrow.Author.Tests.{eq-eqb, ne-eqb, le-leb, lt-leb}
-use native.Mathlib.Omega.{arith}
-use Prim.Native.Nat.{ℕ, _+_, _-_, _≤_}
-use mathlib.Core.Path.{_≡_, refl, sym, _∙_, ap, ap₂}
-use mathlib.Core.List.{List}
-use lib.ListN.{length, drop-of-length-le, List·getD-eq-default}
+use mathlib.Core.Path.{_≡_, ap, _∙_}
+use Rattle.segment.specs.declared.options.FastOpenOption.{FastOpenOption}
 use Rattle.segment.specs.declared.options.Options.{Options}
-use Rattle.segment.specs.Bytes.{byteAt}
-use Rattle.segment.specs.Options.{readOptions, readFrom}
-use Rattle.segment.proofs.ReadFrom.{readAt, one-step}
+use borrow.Author.Needs.{needs}
 use Rattle.segment.proofs.options.read_options.Statement.{statement}
 use Rattle.segment.proofs.options.read_options.Tie as tie
 
-abbrev Inv-loop : tie.InvT-loop
-Inv-loop g area n found₀ i₀ found i = (n ≡ length area) × ((i ≤ n) × (readAt g area i found ≡ readOptions g area))
+option-at-requires : tie.Need-option-at-requires
+option-at-requires c κs = c .find-options .ensures .0
 
-abbrev μ-loop : tie.MeasureT-loop
-μ-loop g area n found₀ i₀ found i = n - i
-
-loop-holds : tie.Need-loop-holds Inv-loop μ-loop
-unfolding readOptions
-loop-holds c = (refl, (search needs, refl))
-
-returns : tie.Need-returns Inv-loop μ-loop
+returns : tie.Need-returns
 returns c =
-    let q = c .before .before .before .loop in
-    let a = c .before .before .before .before .before .args in
-    let s = a .area .now in
-    let e = one-step (a .codings) s (q .i) (q .found) (omega arith) in
-    sym (simp (eq-eqb (byteAt s (q .i)) 0 (omega arith)) at e) ∙ q .inv .1 .1
-
-loop-again : tie.Need-loop-again Inv-loop μ-loop
-loop-again c =
-    let q = c .before .before .before .before .loop in
-    let a = c .before .before .before .before .before .before .args in
-    let s = a .area .now in
-    let k = byteAt s (q .i) in
-    let e = one-step (a .codings) s (q .i) (q .found) (omega arith) in
-    (refl, (search needs, sym (simp (ne-eqb k 0 (λ z. omega arith), eq-eqb k 1 (omega arith)) at e) ∙ q .inv .1 .1))
-
-returns-2 : tie.Need-returns-2 Inv-loop μ-loop
-returns-2 c =
-    let q = c .before .before .before .before .before .loop in
-    let a = c .before .before .before .before .before .before .before .args in
-    let s = a .area .now in
-    let e = one-step (a .codings) s (q .i) (q .found) (omega arith) in
-    let z : length s ≤ q .i + 1 = omega arith in
-    sym (simp (ne-eqb _ _ (c .before .before .if1 .left), ne-eqb _ _ (c .before .if2 .left), List·getD-eq-default s 0 z) at e) ∙ q .inv .1 .1
-
-cast-len : tie.Need-cast-len Inv-loop μ-loop
-cast-len c = omega (arith, c .shared-slice-known3 .given (c .before .before .before .before .before .before .loop .i + 1))
-
-returns-3 : tie.Need-returns-3 Inv-loop μ-loop
-returns-3 c =
-    let q = c .before .before .before .before .before .before .before .loop in
-    let a = c .before .before .before .before .before .before .before .before .before .args in
-    let s = a .area .now in
-    let e = one-step (a .codings) s (q .i) (q .found) (omega arith) in
-    sym (simp (ne-eqb _ _ (c .before .before .before .before .if1 .left), ne-eqb _ _ (c .before .before .before .if2 .left), lt-leb 2 (byteAt s (q .i + 1)) (omega arith)) at e) ∙ q .inv .1 .1
-
-returns-4 : tie.Need-returns-4 Inv-loop μ-loop
-returns-4 c =
-    let q = c .before .before .before .before .before .before .before .before .loop in
-    let a = c .before .before .before .before .before .before .before .before .before .before .args in
-    let s = a .area .now in
-    let l = byteAt s (q .i + 1) in
-    let e = one-step (a .codings) s (q .i) (q .found) (omega arith) in
-    sym (simp (ne-eqb _ _ (c .before .before .before .before .before .if1 .left), ne-eqb _ _ (c .before .before .before .before .if2 .left), le-leb 2 l (omega arith), lt-leb l (length s - q .i) (omega arith)) at e) ∙ q .inv .1 .1
-
-with-option-requires : tie.Need-with-option-requires Inv-loop μ-loop
-with-option-requires c κs =
-    let q = c .before .before .before .before .before .before .before .before .loop in
-    let a = c .before .before .before .before .before .before .before .before .before .before .args in
-    let s = a .area .now in
-    let l = byteAt s (q .i + 1) in
-    let least : 2 ≤ l = omega arith in
-    let fits : q .i + l ≤ length s = omega arith in
-    (least, fits)
-
-loop-again-2 : tie.Need-loop-again-2 Inv-loop μ-loop
-loop-again-2 c =
-    let q = c .before .before .before .before .before .before .before .before .before .loop in
-    let a = c .before .before .before .before .before .before .before .before .before .before .before .args in
-    let s = a .area .now in
-    let e = one-step (a .codings) s (q .i) (q .found) (omega arith) in
-    let l = byteAt s (q .i + 1) in
-    let g = simp (ne-eqb _ _ (c .before .before .before .before .before .before .if1 .left), ne-eqb _ _ (c .before .before .before .before .before .if2 .left), le-leb 2 l (omega arith), le-leb l (length s - q .i) (omega arith)) at e in
-    let p : q .i + l ≡ q .i + 1 + (l - 1) = omega arith in
-    (refl, (omega arith, ap₂ (λ (j : ℕ) (o : Options). readAt (a .codings) s j o) p (c .with-option .ensures) ∙ sym g ∙ q .inv .1 .1))
-
-returns-5 : tie.Need-returns-5 Inv-loop μ-loop
-unfolding readFrom
-returns-5 c =
-    let q = c .before .loop in
-    let a = c .before .before .before .args in
-    let s = a .area .now in
-    let z : length s ≤ q .i = omega arith in
-    sym (ap (λ (t : List ℕ). readFrom (a .codings) s (q .i) 0 t (q .found)) (drop-of-length-le s z)) ∙ q .inv .1 .1
+    let p = c .before .find-options in
+    ap (λ (f : FastOpenOption). record { mss = p .result .mss; fast = f }) (c .option-at .ensures) ∙ p .ensures .1
 
 pub read-options-spec : {M : Type 1} → statement M
-read-options-spec =
-    tie.close
-    (tie.spec
-    Inv-loop μ-loop loop-holds (λ c. search needs) returns (λ c. search needs) (λ c. search needs) loop-again
-    (λ c. search needs) returns-2 (λ c. search needs) (λ c. search needs) cast-len returns-3 (λ c. search needs)
-    returns-4 with-option-requires (λ c. search needs) (λ c. search needs) loop-again-2 returns-5)
+read-options-spec = tie.close (tie.spec (λ c κs. search needs) option-at-requires returns)
