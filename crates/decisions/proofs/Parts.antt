@@ -7,7 +7,7 @@ use native.Mathlib.Omega.{arith}
 use lib.Dec.{ltb}
 use Rattle.segment.specs.Header.{fieldsOf, kindOf, optionArea}
 use Rattle.segment.specs.Options.{readOptions, codingOf}
-use Rattle.segment.specs.Used.{isCounted}
+use Rattle.segment.specs.Places.{isCounted}
 use Rattle.segment.specs.declared.refusal.Refusal.{Refusal}
 use Rattle.segment.specs.declared.refusal.Check.{Check}
 use Rattle.segment.specs.declared.refusal.Check.the-variants.{Clear, Refused}

@@ -10,7 +10,7 @@ use Rattle.lists.proofs.Elements.{set-same}
 use Rattle.segment.specs.Refusal.{refusal}
 use Rattle.segment.specs.Header.{malformed, fieldsOf, kindOf, optionArea, payloadOf}
 use Rattle.segment.specs.Options.{codingOf}
-use Rattle.segment.specs.Used.{isCounted}
+use Rattle.segment.specs.Places.{isCounted}
 use Rattle.segment.specs.Write.{synAckBytes}
 use Rattle.segment.specs.declared.refusal.Refusal.{Refusal}
 use Rattle.segment.specs.declared.refusal.Refusal.the-variants.{Flags}

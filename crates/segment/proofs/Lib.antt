@@ -11,6 +11,6 @@ pub mod OneFamily
 pub mod ReadBack
 pub mod ReadFrom
 pub mod Total
-pub mod Used
+pub mod Places
 pub mod Writes
 pub mod Written

@@ -1,10 +1,10 @@
 -- TCP segments, as RFC 9293, RFC 1071, RFC 7413 and documents 01 and 02 define them. In reading order: the refusals; numbers as bytes; the header, its kind and
--- its parts; the options, and the one that is used by its place, as the code has it; the checksum, and its total as the code has it; sequence numbers; the segments that are written; and samples of the older coding.
+-- its parts; the options, and those that are used by their places, as the code has them; the checksum, and its total as the code has it; sequence numbers; the segments that are written; and samples of the older coding.
 pub mod Refusal
 pub mod Bytes
 pub mod Header
 pub mod Options
-pub mod Used
+pub mod Places
 pub mod Found
 pub mod Checksum
 pub mod Totals

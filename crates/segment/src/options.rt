@@ -6,8 +6,8 @@ use crate::number::word_at;
 ghost use mathlib.Core.Path.{_≡_};
 ghost use Prim.Native.Nat.{_+_, _≤_};
 ghost use lib.ListN.{length};
-ghost use Rattle.segment.specs.Options.{mssOption, isCookieLength, cookieAt, isIn, countsCoding, codingsOf, fastOpenOption, firstMss, readOptions, optionsOf, cookieBytes, codingOf};
-ghost use Rattle.segment.specs.Used.{isCounted, firstUsed, optionAt, foundAt, Used};
+ghost use Rattle.segment.specs.Options.{isCookieLength, cookieAt, isIn, countsCoding, codingsOf, fastOpenOption, firstMss, readOptions, optionsOf, cookieBytes, codingOf};
+ghost use Rattle.segment.specs.Places.{isMssOption, isCounted, firstMssAt, firstFastAt, mssAt, fastAt, foundAt, MssFits, FastFits, Found};
 
 // The own MSS that an end may be set to lies between these.
 pub const LEAST_MSS: u32 = 536;
@@ -57,18 +57,6 @@ pub fn first_mss(found: Mss, next: Mss) -> Mss
         Mss::NotGiven => next,
         Mss::Given(v) => Mss::Given(v),
     }
-}
-
-fn mss_option(area: &[u8], i: usize, len: usize) -> Mss
-    requires { ⌜ (2 ≤ len) × (i + len ≤ length (now area)) ⌝ }
-    ensures { λ r. ⌜ r ≡ mssOption (now (area .entry)) i len ⌝ }
-{
-    if area[i] == 2 {
-        if len == 4 {
-            return Mss::Given(word_at(area, i + 2));
-        }
-    }
-    Mss::NotGiven
 }
 
 // Whether a cookie may have n bytes.
@@ -159,71 +147,105 @@ pub fn is_counted(fast: FastOpenOption) -> bool
     }
 }
 
-// What one pass over an area finds: the segment size, and where the Fast Open option begins that is used, counted from 1; 0 is none.
+// Where the options that are used begin, the MSS and Fast Open: places count from 1, and 0 is none.
 struct Places {
-    mss: Mss,
-    used: usize,
+    mss_at: usize,
+    fast_at: usize,
 }
 
-// Where it begins, with the option of `len` bytes at `i` besides.
-fn first_used(used: usize, codings: Codings, area: &[u8], i: usize, len: usize) -> usize
+// Whether the option is an MSS that counts.
+fn is_mss(area: &[u8], i: usize, len: usize) -> bool
     requires { ⌜ (2 ≤ len) × (i + len ≤ length (now area)) ⌝ }
-    ensures { λ r. ⌜ r ≡ firstUsed codings (now (area .entry)) used i len ⌝ }
+    ensures { λ r. ⌜ r ≡ isMssOption (now (area .entry)) i len ⌝ }
 {
-    if used == 0 {
+    if area[i] == 2 {
+        return len == 4;
+    }
+    false
+}
+
+// Where each begins, with the option of `len` bytes at `i` besides.
+fn first_mss_at(mss_at: usize, area: &[u8], i: usize, len: usize) -> usize
+    requires { ⌜ (2 ≤ len) × (i + len ≤ length (now area)) ⌝ }
+    ensures { λ r. ⌜ r ≡ firstMssAt (now (area .entry)) «mss_at» i len ⌝ }
+{
+    if mss_at == 0 {
+        if is_mss(area, i, len) {
+            return i + 1;
+        }
+    }
+    mss_at
+}
+
+fn first_fast_at(fast_at: usize, codings: Codings, area: &[u8], i: usize, len: usize) -> usize
+    requires { ⌜ (2 ≤ len) × (i + len ≤ length (now area)) ⌝ }
+    ensures { λ r. ⌜ r ≡ firstFastAt codings (now (area .entry)) «fast_at» i len ⌝ }
+{
+    if fast_at == 0 {
         if is_counted(fast_open_option(codings, area, i, len)) {
             return i + 1;
         }
     }
-    used
-}
-
-// The option that begins there.
-fn option_at(codings: Codings, area: &[u8], used: usize) -> FastOpenOption
-    requires { ⌜ Used codings (now area) used ⌝ }
-    ensures { λ r. ⌜ r ≡ optionAt codings (now (area .entry)) used ⌝ }
-{
-    if 0 < used {
-        let len = area[used] as usize;
-        return fast_open_option(codings, area, used - 1, len);
-    }
-    FastOpenOption::Absent
+    fast_at
 }
 
 // Goes over an option area. Where a length does not fit, the reading ends and what was found before stands.
 fn find_options(codings: Codings, area: &[u8]) -> Places
-    ensures { λ r. ⌜ (Used codings (now (area .entry)) (r .used)) × (foundAt codings (now (area .entry)) (r .mss) (r .used) ≡ readOptions codings (now (area .entry))) ⌝ }
+    ensures { λ r. ⌜ Found codings (now (area .entry)) (r .«mss_at») (r .«fast_at») ⌝ }
+    ensures { λ r. ⌜ foundAt codings (now (area .entry)) (r .«mss_at») (r .«fast_at») ≡ readOptions codings (now (area .entry)) ⌝ }
 {
     let n = area.len();
-    let mut mss = Mss::NotGiven;
-    let mut used: usize = 0;
+    let mut mss_at: usize = 0;
+    let mut fast_at: usize = 0;
     let mut i = 0;
     while i < n {
         let kind = area[i];
         if kind == 0 {
-            return Places { mss, used };
+            return Places { mss_at, fast_at };
         }
         if kind == 1 {
             i += 1;
             continue;
         }
         if n - i < 2 {
-            return Places { mss, used };
+            return Places { mss_at, fast_at };
         }
         let len = area[i + 1] as usize;
         if len < 2 {
-            return Places { mss, used };
+            return Places { mss_at, fast_at };
         }
         if n - i < len {
-            return Places { mss, used };
+            return Places { mss_at, fast_at };
         }
-        let size = first_mss(mss, mss_option(area, i, len));
-        let place = first_used(used, codings, area, i, len);
-        mss = size;
-        used = place;
+        let size = first_mss_at(mss_at, area, i, len);
+        let fast = first_fast_at(fast_at, codings, area, i, len);
+        mss_at = size;
+        fast_at = fast;
         i += len;
     }
-    Places { mss, used }
+    Places { mss_at, fast_at }
+}
+
+// What begins at a place.
+fn mss_from(area: &[u8], at: usize) -> Mss
+    requires { ⌜ MssFits (now area) at ⌝ }
+    ensures { λ r. ⌜ r ≡ mssAt (now (area .entry)) at ⌝ }
+{
+    if 0 < at {
+        return Mss::Given(word_at(area, at + 1));
+    }
+    Mss::NotGiven
+}
+
+fn fast_from(codings: Codings, area: &[u8], at: usize) -> FastOpenOption
+    requires { ⌜ FastFits codings (now area) at ⌝ }
+    ensures { λ r. ⌜ r ≡ fastAt codings (now (area .entry)) at ⌝ }
+{
+    if 0 < at {
+        let len = area[at] as usize;
+        return fast_open_option(codings, area, at - 1, len);
+    }
+    FastOpenOption::Absent
 }
 
 // Reads an option area.
@@ -231,8 +253,8 @@ pub fn read_options(codings: Codings, area: &[u8]) -> Options
     ensures { λ r. ⌜ r ≡ readOptions codings (now (area .entry)) ⌝ }
 {
     let found = find_options(codings, area);
-    let mss = found.mss;
-    let fast = option_at(codings, area, found.used);
+    let mss = mss_from(area, found.mss_at);
+    let fast = fast_from(codings, area, found.fast_at);
     Options { mss, fast }
 }
 
