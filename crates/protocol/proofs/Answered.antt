@@ -23,7 +23,7 @@ use Rattle.endpoint.specs.Address.{block}
 use Rattle.protocol.specs.Cookie.{cookieUnder}
 use Rattle.protocol.specs.View.{ownAddress}
 use Rattle.protocol.specs.Step.{accepts, isEarly, isFresh, newEvent, openingEvent, segmentEvent, freshWith, codingFor, synAckFrom, synAckTo, segmentOutput, step}
-use Rattle.protocol.specs.Answered.{call, seen, DoneOpening, reply, Answered}
+use Rattle.protocol.specs.Answered.{call, seen, DoneOpening, asked, reply, Answered}
 use Rattle.protocol.specs.declared.state.View.{View}
 use Rattle.protocol.specs.declared.state.Listener.{Listener}
 use Rattle.protocol.proofs.Cookie.{cookie-eight, cookie-bytes}
@@ -50,6 +50,10 @@ found-eight c (b ∷ rest) e = ap (Cookie c (4 + prefixLength c)) e
 module _ (l : Listener) (t : ℕ) (src seg : List ℕ) (iss out-len : ℕ) (o : DoneOpening l t src seg iss out-len) where
   abbrev v : View
   v = seen l t src seg iss out-len
+
+  -- the coding of its SYN-ACK is that of its option
+  coded : codingFor v seg ≡ asked l t src seg iss out-len
+  coded = refl
 
   abbrev pub early : Bool
   early = isEarly v (block src) seg
