@@ -43,7 +43,7 @@ pub enum FastOpenOption {
     },
 }
 
-// The options that count, the first of each kind.
+// The options that count: the first MSS, and the first Fast Open option in either coding.
 pub struct Options {
     pub mss: Mss,
     pub fast: FastOpenOption,
