@@ -5,7 +5,7 @@ use mathlib.Core.Bool.{cond, and-false}
 use mathlib.Core.List.{List}
 use lib.Dec.{eqb}
 use Rattle.segment.specs.Bytes.{byteAt}
-use Rattle.segment.specs.Options.{mssOption, isCookieLength, cookieAt, isIn, optionIn, fastOpenOption, withOption, readFrom, readOptions}
+use Rattle.segment.specs.Options.{isMssOption, mssOption, isCookieLength, cookieAt, isIn, optionIn, fastOpenOption, withOption, readFrom, readOptions}
 use Rattle.segment.specs.Write.{optionBytes}
 use Rattle.segment.specs.Older.{OlderCoding}
 use Rattle.segment.specs.declared.options.Coding.the-variants.{New}
@@ -17,7 +17,7 @@ unfolding fastOpenOption isIn optionIn
 as-before area i len = simp and-false
 
 pub older-coding : OlderCoding
-unfolding readOptions readFrom withOption mssOption fastOpenOption isIn optionIn cookieAt isCookieLength optionBytes
+unfolding readOptions readFrom withOption isMssOption mssOption fastOpenOption isIn optionIn cookieAt isCookieLength optionBytes
 older-coding =
     record {
       request = refl;

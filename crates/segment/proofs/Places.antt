@@ -9,8 +9,8 @@ use lib.Dec.{eqb}
 use borrow.Author.Tests.{ne-eqb, eqb-true}
 use Rattle.lists.proofs.Bools.{and-true}
 use Rattle.segment.specs.Bytes.{byteAt, wordAt}
-use Rattle.segment.specs.Options.{nothing, mssOption, fastOpenOption, firstMss, firstFastOpen, withOption}
-use Rattle.segment.specs.Places.{isMssOption, isCounted, firstMssAt, firstFastAt, mssAt, fastAt, foundAt, MssFits, FastFits, Found}
+use Rattle.segment.specs.Options.{nothing, isMssOption, mssOption, fastOpenOption, firstMss, firstFastOpen, withOption}
+use Rattle.segment.specs.Places.{isCounted, firstMssAt, firstFastAt, mssAt, fastAt, foundAt, MssFits, FastFits, Found}
 use Rattle.segment.specs.declared.options.Codings.{Codings}
 use Rattle.segment.specs.declared.options.Mss.{Mss}
 use Rattle.segment.specs.declared.options.Mss.the-variants.{NotGiven, Given}
@@ -78,7 +78,7 @@ module _ (area : List ℕ) (i len : ℕ) where
   mss-fits (suc k) f u = rw (mss-stays (suc k) (omega arith)) u
 
   mss-option : {c : Bool} → isMssOption area i len ≡ c → mssOption area i len ≡ cond c (Given (wordAt area (i + 2))) NotGiven
-  unfolding mssOption isMssOption
+  unfolding mssOption
   mss-option e = rw e
 
   -- the first of the two

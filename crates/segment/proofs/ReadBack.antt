@@ -11,7 +11,7 @@ use borrow.Author.Tests.{le-leb, le-ltb, ne-eqb}
 use Rattle.lists.specs.Bytes.{Bytes}
 use Rattle.segment.specs.Bytes.{byteAt, be16, be32, word, long}
 use Rattle.segment.specs.Header.{SYN, has, malformed, offsetOf, headerLength, fieldsOf, shapeOf, optionArea, payloadOf}
-use Rattle.segment.specs.Options.{nothing, mssOption, cookieAt, isIn, prefixLength, optionIn, countsCoding, fastOpenOption, withOption, readFrom, readOptions, optionsOf, cookieBytes}
+use Rattle.segment.specs.Options.{nothing, isMssOption, mssOption, cookieAt, isIn, prefixLength, optionIn, countsCoding, fastOpenOption, withOption, readFrom, readOptions, optionsOf, cookieBytes}
 use Rattle.segment.specs.Checksum.{onesSum, complement, pseudoHeader, segmentSum, checksumRight}
 use Rattle.segment.specs.Write.{padding, mssBytes, prefixBytes, fastOpenBytes, optionBytes, headerBytes, segmentWith, segmentBytes, optionAllowed, optionsFor, lengthFor, canWrite, written}
 use Rattle.segment.specs.declared.header.Header.{Header}
@@ -59,7 +59,7 @@ foundFor mss fast c cookie = record { mss = Given mss; fast = fastOpenFor fast c
 
 without-fast-open : (g : Codings) (mss : ℕ) (c : Coding) (cookie : List ℕ) → mss < 65536
     → readOptions g (optionBytes mss false c cookie) ≡ record { mss = Given mss; fast = Absent }
-unfolding readOptions readFrom withOption mssOption fastOpenOption isIn optionBytes
+unfolding readOptions readFrom withOption isMssOption mssOption fastOpenOption isIn optionBytes
 without-fast-open g mss c cookie h = rw (back16 mss h)
 
 -- a prefix begins an option of its own length and the cookie's, which is no MSS
@@ -70,14 +70,14 @@ pub record Begins (area : List ℕ) (i len : ℕ) : Type 0 where
   pub other : mssOption area i len ≡ NotGiven
 
 prefix-begins : (mss : ℕ) (c : Coding) (cookie : List ℕ) → Begins (optionBytes mss true c cookie) 4 (length cookie + prefixLength c)
-unfolding optionBytes mssOption
+unfolding optionBytes isMssOption mssOption
 prefix-begins mss New cookie = record { more = refl; long = refl; size = refl; other = refl }
 prefix-begins mss Older cookie = record { more = refl; long = refl; size = refl; other = refl }
 
 -- with a Fast Open option the reader comes to it and then to the padding, whatever the cookie's length
 with-fast-open : (g : Codings) (mss : ℕ) (c : Coding) (cookie : List ℕ) → mss < 65536
     → readOptions g (optionBytes mss true c cookie) ≡ record { mss = Given mss; fast = fastOpenOption g (optionBytes mss true c cookie) 4 (length cookie + prefixLength c) }
-unfolding readOptions withOption mssOption fastOpenOption isIn optionBytes
+unfolding readOptions withOption isMssOption mssOption fastOpenOption isIn optionBytes
 with-fast-open g mss c cookie h =
     let area = optionBytes mss true c cookie in
     let body = mssBytes mss ++ fastOpenBytes c cookie in

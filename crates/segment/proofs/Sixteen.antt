@@ -8,7 +8,7 @@ use borrow.Author.Tests.{le-leb}
 use lib.ListN.{length}
 use Rattle.segment.specs.Bytes.{word}
 use Rattle.segment.specs.Sequence.{nextAfter, difference, inWindow}
-use Rattle.segment.specs.Options.{nothing, mssOption, isCookieLength, cookieAt, isIn, optionIn, fastOpenOption, withOption, readFrom, readOptions}
+use Rattle.segment.specs.Options.{nothing, isMssOption, mssOption, isCookieLength, cookieAt, isIn, optionIn, fastOpenOption, withOption, readFrom, readOptions}
 use Rattle.segment.specs.Found.{onlyFastOpen, onlyMss, FoundCookie, EarlierStands}
 use Rattle.segment.specs.Checksum.{onesAdd, onesSum, pseudoHeader, segmentSum}
 use Rattle.segment.specs.Write.{optionBytes, headerBytes, segmentWith, segmentBytes, optionAllowed, canWrite, written, synAckBytes}
@@ -41,32 +41,32 @@ row5 = refl
 
 -- 6: a request
 pub row6 : (g : Codings) → readOptions g (34 ∷ 2 ∷ []) ≡ onlyFastOpen (Request New)
-unfolding readOptions readFrom withOption mssOption fastOpenOption isIn optionIn cookieAt isCookieLength
+unfolding readOptions readFrom withOption isMssOption mssOption fastOpenOption isIn optionIn cookieAt isCookieLength
 row6 g = refl
 
 -- 7, 8: skipped. Nothing is found, and a request that follows is.
 pub row7 : (g : Codings) → (readOptions g (34 ∷ 3 ∷ 0 ∷ []) ≡ nothing) × (readOptions g (34 ∷ 3 ∷ 0 ∷ 34 ∷ 2 ∷ []) ≡ onlyFastOpen (Request New))
-unfolding readOptions readFrom withOption mssOption fastOpenOption isIn optionIn cookieAt isCookieLength
+unfolding readOptions readFrom withOption isMssOption mssOption fastOpenOption isIn optionIn cookieAt isCookieLength
 row7 g = (refl, refl)
 
 pub row8 : (g : Codings) → (readOptions g (34 ∷ 4 ∷ 1 ∷ 2 ∷ []) ≡ nothing) × (readOptions g (34 ∷ 4 ∷ 1 ∷ 2 ∷ 34 ∷ 2 ∷ []) ≡ onlyFastOpen (Request New))
-unfolding readOptions readFrom withOption mssOption fastOpenOption isIn optionIn cookieAt isCookieLength
+unfolding readOptions readFrom withOption isMssOption mssOption fastOpenOption isIn optionIn cookieAt isCookieLength
 row8 g = (refl, refl)
 
 -- 9, 10: the shortest cookie and the longest, whatever their bytes
 pub row9 : (g : Codings) (a b c d : ℕ) → FoundCookie g (a ∷ b ∷ c ∷ d ∷ []) (34 ∷ 6 ∷ a ∷ b ∷ c ∷ d ∷ [])
-unfolding readOptions readFrom withOption mssOption fastOpenOption isIn optionIn cookieAt isCookieLength
+unfolding readOptions readFrom withOption isMssOption mssOption fastOpenOption isIn optionIn cookieAt isCookieLength
 row9 g a b c d = (refl, refl)
 
 pub row10 : (u : Codings) (a b c d e f g h i j k l m n o p : ℕ)
     → FoundCookie u (a ∷ b ∷ c ∷ d ∷ e ∷ f ∷ g ∷ h ∷ i ∷ j ∷ k ∷ l ∷ m ∷ n ∷ o ∷ p ∷ [])
     (34 ∷ 18 ∷ a ∷ b ∷ c ∷ d ∷ e ∷ f ∷ g ∷ h ∷ i ∷ j ∷ k ∷ l ∷ m ∷ n ∷ o ∷ p ∷ [])
-unfolding readOptions readFrom withOption mssOption fastOpenOption isIn optionIn cookieAt isCookieLength
+unfolding readOptions readFrom withOption isMssOption mssOption fastOpenOption isIn optionIn cookieAt isCookieLength
 row10 u a b c d e f g h i j k l m n o p = (refl, refl)
 
 -- 11: reading ends, whatever follows, and what was found before stands
 pub row11 : (g : Codings) (rest : List ℕ) → (readOptions g (34 ∷ 0 ∷ rest) ≡ nothing) × EarlierStands g (34 ∷ 0 ∷ rest)
-unfolding readOptions readFrom withOption mssOption fastOpenOption isIn optionIn cookieAt isCookieLength
+unfolding readOptions readFrom withOption isMssOption mssOption fastOpenOption isIn optionIn cookieAt isCookieLength
 row11 g rest = (refl, earlier)
   where
     earlier : EarlierStands g (34 ∷ 0 ∷ rest)
@@ -74,7 +74,7 @@ row11 g rest = (refl, earlier)
 
 -- 12: reading ends at the last byte, and what was found before stands
 pub row12 : (g : Codings) → (readOptions g (34 ∷ []) ≡ nothing) × EarlierStands g (34 ∷ [])
-unfolding readOptions readFrom withOption mssOption fastOpenOption isIn optionIn cookieAt isCookieLength
+unfolding readOptions readFrom withOption isMssOption mssOption fastOpenOption isIn optionIn cookieAt isCookieLength
 row12 g = (refl, λ a b. refl)
 
 -- 16: the SYN-ACK's bytes, in any output that is long enough

@@ -25,8 +25,11 @@ abbrev pub mostMss : ℕ
 mostMss = 1460
 
 -- kind 2 counts with length 4
+unfoldable pub isMssOption : List ℕ → ℕ → ℕ → Bool
+isMssOption area i len = eqb (byteAt area i) 2 && eqb len 4
+
 unfoldable pub mssOption : List ℕ → ℕ → ℕ → Mss
-mssOption area i len = cond (eqb (byteAt area i) 2 && eqb len 4) (Given (wordAt area (i + 2))) NotGiven
+mssOption area i len = cond (isMssOption area i len) (Given (wordAt area (i + 2))) NotGiven
 
 -- RFC 7413, 4.1.1: a cookie has 4 to 16 bytes, an even number
 unfoldable pub isCookieLength : ℕ → Bool

@@ -7,7 +7,7 @@ use mathlib.Core.Bool.{Bool, true, false, cond, _&&_}
 use lib.Dec.{eqb}
 use lib.ListN.{length}
 use Rattle.segment.specs.Bytes.{byteAt, wordAt}
-use Rattle.segment.specs.Options.{fastOpenOption}
+use Rattle.segment.specs.Options.{isMssOption, fastOpenOption}
 use Rattle.segment.specs.declared.options.Codings.{Codings}
 use Rattle.segment.specs.declared.options.Mss.{Mss}
 use Rattle.segment.specs.declared.options.Mss.the-variants.{NotGiven, Given}
@@ -15,10 +15,7 @@ use Rattle.segment.specs.declared.options.FastOpenOption.{FastOpenOption
 use Rattle.segment.specs.declared.options.FastOpenOption.the-variants.{Absent, Request, Cookie}
 use Rattle.segment.specs.declared.options.Options.{Options}
 
--- an option counts
-unfoldable pub isMssOption : List ℕ → ℕ → ℕ → Bool
-isMssOption area i len = eqb (byteAt area i) 2 && eqb len 4
-
+-- a Fast Open option counts
 abbrev pub isCounted : FastOpenOption → Bool
 isCounted Absent = false
 isCounted (Request c) = true

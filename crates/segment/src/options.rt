@@ -6,8 +6,8 @@ use crate::number::word_at;
 ghost use mathlib.Core.Path.{_≡_};
 ghost use Prim.Native.Nat.{_+_, _≤_};
 ghost use lib.ListN.{length};
-ghost use Rattle.segment.specs.Options.{isCookieLength, cookieAt, isIn, countsCoding, codingsOf, fastOpenOption, firstMss, readOptions, optionsOf, cookieBytes, codingOf};
-ghost use Rattle.segment.specs.Places.{isMssOption, isCounted, firstMssAt, firstFastAt, mssAt, fastAt, foundAt, MssFits, FastFits, Found};
+ghost use Rattle.segment.specs.Options.{isMssOption, isCookieLength, cookieAt, isIn, countsCoding, codingsOf, fastOpenOption, firstMss, readOptions, optionsOf, cookieBytes, codingOf};
+ghost use Rattle.segment.specs.Places.{isCounted, firstMssAt, firstFastAt, mssAt, fastAt, foundAt, MssFits, FastFits, Found};
 
 // The own MSS that an end may be set to lies between these.
 pub const LEAST_MSS: u32 = 536;

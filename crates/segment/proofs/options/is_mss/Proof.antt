@@ -3,7 +3,7 @@
 use native.Mathlib.Omega.{arith}
 use borrow.Author.Tests.{eq-eqb, ne-eqb}
 use Rattle.segment.specs.Bytes.{byteAt}
-use Rattle.segment.specs.Places.{isMssOption}
+use Rattle.segment.specs.Options.{isMssOption}
 use borrow.Author.Needs.{needs}
 use Rattle.segment.proofs.options.is_mss.Statement.{statement}
 use Rattle.segment.proofs.options.is_mss.Tie as tie
