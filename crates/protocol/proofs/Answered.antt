@@ -103,7 +103,7 @@ module _ (l : Listener) (t : ℕ) (src seg : List ℕ) (iss out-len : ℕ) (o : 
         counts = coding-counts (l .settings .codings) seg;
         size = λ f. written-is ∙ ap synAckLength f;
         fresh = λ f g k.
-            let r = read-new g k in (
+            let r = read-new g (subst (λ (c : Coding). countsCoding g c ≡ true) (sym coded) k) in (
               ap (λ (x : Options). x .fast) (r .options) ∙ ap (λ (b : Bool). fastOpenFor b (codingFor v seg) issued) f ∙ found-eight (codingFor v seg) issued (cookie-eight (l .keys .present) (block src)),
               r .bytes f,
             );

@@ -16,7 +16,7 @@ use Rattle.segment.specs.Checksum.{onesSum, complement, pseudoHeader, se
 use Rattle.segment.specs.Write.{padding, mssBytes, prefixBytes, fastOpenBytes, optionBytes, headerBytes, segmentWith, segmentBytes, optionAllowed, optionsFor, lengthFor, canWrite, written}
 use Rattle.segment.specs.declared.header.Header.{Header}
 use Rattle.segment.specs.declared.header.Shape.the-variants.{WellFormed}
-use Rattle.segment.specs.declared.options.Mss.the-variants.{NotGiven, Given}
+use Rattle.segment.specs.declared.options.Mss.the-variants.{Given}
 use Rattle.segment.specs.declared.options.Coding.{Coding}
 use Rattle.segment.specs.declared.options.Coding.the-variants.{New, Older}
 use Rattle.segment.specs.declared.options.Codings.{Codings}
@@ -62,17 +62,16 @@ without-fast-open : (g : Codings) (mss : ℕ) (c : Coding) (cookie : List ℕ) �
 unfolding readOptions readFrom withOption isMssOption mssOption fastOpenOption isIn optionBytes
 without-fast-open g mss c cookie h = rw (back16 mss h)
 
--- a prefix begins an option of its own length and the cookie's, which is no MSS
-pub record Begins (area : List ℕ) (i len : ℕ) : Type 0 where
-  pub more : eqb (byteAt area i) 0 ≡ false
-  pub long : eqb (byteAt area i) 1 ≡ false
-  pub size : byteAt area (i + 1) ≡ len
-  pub other : mssOption area i len ≡ NotGiven
+-- a prefix begins an option of its own length and the cookie's
+record Begins (area : List ℕ) (i len : ℕ) : Type 0 where
+  more : eqb (byteAt area i) 0 ≡ false
+  long : eqb (byteAt area i) 1 ≡ false
+  size : byteAt area (i + 1) ≡ len
 
 prefix-begins : (mss : ℕ) (c : Coding) (cookie : List ℕ) → Begins (optionBytes mss true c cookie) 4 (length cookie + prefixLength c)
-unfolding optionBytes isMssOption mssOption
-prefix-begins mss New cookie = record { more = refl; long = refl; size = refl; other = refl }
-prefix-begins mss Older cookie = record { more = refl; long = refl; size = refl; other = refl }
+unfolding optionBytes
+prefix-begins mss New cookie = record { more = refl; long = refl; size = refl }
+prefix-begins mss Older cookie = record { more = refl; long = refl; size = refl }
 
 -- with a Fast Open option the reader comes to it and then to the padding, whatever the cookie's length
 with-fast-open : (g : Codings) (mss : ℕ) (c : Coding) (cookie : List ℕ) → mss < 65536
