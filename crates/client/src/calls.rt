@@ -29,6 +29,7 @@ use segment::options::Codings;
 use segment::options::FastOpenOption;
 use segment::options::Mss;
 use segment::options::cookie;
+use segment::options::no_remarks;
 use segment::options::segment_options;
 use segment::refusal::Check;
 use segment::refusal::Refusal;
@@ -39,6 +40,7 @@ ghost use mathlib.Core.Bool.{not, _&&_};
 ghost use Prim.Native.Nat.{_≤_};
 ghost use lib.ListN.{length};
 ghost use Rattle.lists.specs.Bytes.{overwrite};
+ghost use Rattle.segment.specs.Remarks.{noRemarks};
 ghost use Rattle.endpoint.specs.Checks.{lastTime};
 ghost use Rattle.client.specs.Refusals.{mostSent};
 ghost use Rattle.client.specs.Cache.{withCache};
@@ -48,12 +50,13 @@ ghost use Rattle.client.specs.Step.{blank, neverStarted, startOf, sentWi
 
 // A refused call changes nothing.
 fn refused(m: Memory, why: Refusal) -> Outcome
-    ensures { λ r. ⌜ r ≡ record { memory = m; event = Event.Refused why; written = 0 } ⌝ }
+    ensures { λ r. ⌜ r ≡ record { memory = m; event = Event.Refused why; written = 0; remarks = noRemarks } ⌝ }
 {
     Outcome {
         memory: m,
         event: Event::Refused(why),
         written: 0,
+        remarks: no_remarks(),
     }
 }
 
@@ -162,6 +165,7 @@ pub fn connect(
                 memory: at_time(m, time),
                 event: Event::Opened(n as u32),
                 written,
+                remarks: no_remarks(),
             }
         }
     }
@@ -236,7 +240,9 @@ pub fn answer(
         Reply::Dropped(why) => refused(m, why),
         Reply::Acknowledged(n) => {
             let b = block_of(server);
-            let options = segment_options(codings, seg);
+            let found = segment_options(codings, seg);
+            let options = found.options;
+            let remarks = found.remarks;
             let fast = options.fast;
             let mss = options.mss;
             let known = learn(next, b, cookie(option_area(seg), fast), mss);
@@ -245,6 +251,7 @@ pub fn answer(
                 memory: ban_if(known, time, b, a.dest, negative),
                 event: Event::Answered(n),
                 written: 0,
+                remarks,
             }
         }
     }
@@ -264,6 +271,7 @@ pub fn failed(m: Memory, time: u64, server: &[u8], port: u16) -> Outcome
                 memory: at_time(next, time),
                 event: Event::Reported,
                 written: 0,
+                remarks: no_remarks(),
             }
         }
     }

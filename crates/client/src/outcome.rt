@@ -1,5 +1,6 @@
 // What a call is given and what it comes to.
 use crate::state::Memory;
+use segment::options::Remarks;
 use segment::refusal::Check;
 use segment::refusal::Refusal;
 use segment::refusal::number;
@@ -30,11 +31,12 @@ pub enum Event {
     Reported,
 }
 
-// A call's result: the memory next, what happened, and how many bytes were written to the output.
+// A call's result: the memory next, what happened, how many bytes were written to the output, and what was remarked on an answer's options.
 pub struct Outcome {
     pub memory: Memory,
     pub event: Event,
     pub written: usize,
+    pub remarks: Remarks,
 }
 
 // A start's result. Where it was refused, every call on the memory is.

@@ -7,9 +7,7 @@ use protocol::state::Keys;
 use protocol::state::StoredSettings;
 use segment::header::Header;
 use segment::header::Kind;
-use segment::options::Codings;
 use segment::options::FastOpenOption;
-use segment::options::read_options;
 use table::slot::after_reset;
 use table::slot::new_slot;
 use table::slot::with_status;
@@ -20,7 +18,7 @@ ghost use lib.ListN.{length};
 ghost use Rattle.protocol.specs.Cookie.{cookieUnder, found, right};
 ghost use Rattle.protocol.specs.Table.{newSlot};
 ghost use Rattle.protocol.specs.Step.{newEvent, newStatus};
-ghost use Rattle.decisions.specs.Parts.{isOpening, enabledWith, countedIn, isFreshFor, laterEvent, laterSlot};
+ghost use Rattle.decisions.specs.Parts.{isOpening, enabledWith, countedWith, isFreshFor, laterEvent, laterSlot};
 
 // Whether a segment asks for a connection.
 pub fn is_opening(kind: Kind) -> bool
@@ -62,14 +60,13 @@ pub fn cookies_enabled(g: StoredSettings, pending: u32) -> bool
 }
 
 // The Fast Open option by which a new opening is answered: none where cookies are not enabled.
-pub fn counted_option(enabled: bool, codings: Codings, area: &[u8]) -> FastOpenOption
-    ensures { λ r. ⌜ r ≡ countedIn enabled codings (now (area .entry)) ⌝ }
+pub fn counted_option(enabled: bool, fast: FastOpenOption) -> FastOpenOption
+    ensures { λ r. ⌜ r ≡ countedWith enabled fast ⌝ }
 {
-    if !enabled {
-        return FastOpenOption::Absent;
+    if enabled {
+        return fast;
     }
-    let options = read_options(codings, area);
-    options.fast
+    FastOpenOption::Absent
 }
 
 // A new connection's slot, where no option counts.

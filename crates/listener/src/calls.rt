@@ -46,6 +46,8 @@ use segment::options::Coding;
 use segment::options::Codings;
 use segment::options::coding_of;
 use segment::options::is_counted;
+use segment::options::no_remarks;
+use segment::options::read_options;
 use segment::refusal::Check;
 use segment::refusal::Refusal;
 use table::scan::count_if;
@@ -62,6 +64,7 @@ ghost use mathlib.Core.Path.{_≡_};
 ghost use Prim.Native.Nat.{_≤_};
 ghost use lib.ListN.{length};
 ghost use Rattle.lists.specs.Bytes.{overwrite};
+ghost use Rattle.segment.specs.Remarks.{noRemarks};
 ghost use Rattle.protocol.specs.Table.{pendingAt};
 ghost use Rattle.protocol.specs.Call.{Call};
 ghost use Rattle.protocol.specs.Refusals.{releaseOf};
@@ -69,23 +72,25 @@ ghost use Rattle.protocol.specs.Step.{blank, freshListener, neverStarted, start
 
 // A refused call changes nothing.
 fn refused(l: Listener, why: Refusal) -> Outcome
-    ensures { λ r. ⌜ r ≡ record { listener = l; event = Event.Refused why; written = 0 } ⌝ }
+    ensures { λ r. ⌜ r ≡ record { listener = l; event = Event.Refused why; written = 0; remarks = noRemarks } ⌝ }
 {
     Outcome {
         listener: l,
         event: Event::Refused(why),
         written: 0,
+        remarks: no_remarks(),
     }
 }
 
 // Done, with nothing written and no verdict.
 fn done(l: Listener) -> Outcome
-    ensures { λ r. ⌜ r ≡ record { listener = l; event = Event.Done; written = 0 } ⌝ }
+    ensures { λ r. ⌜ r ≡ record { listener = l; event = Event.Done; written = 0; remarks = noRemarks } ⌝ }
 {
     Outcome {
         listener: l,
         event: Event::Done,
         written: 0,
+        remarks: no_remarks(),
     }
 }
 
@@ -202,6 +207,7 @@ pub fn segment(l: Listener, time: u64, src: &[u8], seg: &[u8], iss: u32, out: &m
             }
             let mut next = l;
             let settings = next.settings;
+            let codings = settings.codings;
             let b = block_of(src);
             // An opening needs all of the table: the peer, a free slot, and how many are pending.
             if is_opening(kind) {
@@ -219,6 +225,8 @@ pub fn segment(l: Listener, time: u64, src: &[u8], seg: &[u8], iss: u32, out: &m
                         return refused(next, why);
                     }
                     OpeningCheck::Repeat => {
+                        let reading = read_options(codings, area_within(seg, h.offset));
+                        let remarks = reading.remarks;
                         let cookie = [0u8; 8];
                         let written = write_from(
                             out,
@@ -235,17 +243,17 @@ pub fn segment(l: Listener, time: u64, src: &[u8], seg: &[u8], iss: u32, out: &m
                             listener: next,
                             event: Event::Retransmission,
                             written,
+                            remarks,
                         };
                     }
                     OpeningCheck::New => {
                         let i = scan.free;
                         let area = area_within(seg, h.offset);
-                        let codings = settings.codings;
-                        let fast = counted_option(
-                            cookies_enabled(settings, scan.pending),
-                            codings,
-                            area,
-                        );
+                        let reading = read_options(codings, area);
+                        let remarks = reading.remarks;
+                        let options = reading.options;
+                        let read = options.fast;
+                        let fast = counted_option(cookies_enabled(settings, scan.pending), read);
                         // Without an option no key is read.
                         if !is_counted(fast) {
                             let new = open_plain(b, h, iss);
@@ -266,6 +274,7 @@ pub fn segment(l: Listener, time: u64, src: &[u8], seg: &[u8], iss: u32, out: &m
                                 listener: next,
                                 event: Event::Regular,
                                 written,
+                                remarks,
                             };
                         }
                         let keys = next.keys;
@@ -290,6 +299,7 @@ pub fn segment(l: Listener, time: u64, src: &[u8], seg: &[u8], iss: u32, out: &m
                             listener: next,
                             event,
                             written,
+                            remarks,
                         };
                     }
                 }
@@ -318,6 +328,7 @@ pub fn segment(l: Listener, time: u64, src: &[u8], seg: &[u8], iss: u32, out: &m
                         listener: next,
                         event: later_event(kind),
                         written: 0,
+                        remarks: no_remarks(),
                     };
                 }
             }
@@ -464,6 +475,7 @@ pub fn resend(l: Listener, time: u64, addr: &[u8], port: u16, out: &mut [u8]) ->
                 listener: next,
                 event: Event::Done,
                 written,
+                remarks: no_remarks(),
             };
         }
     }

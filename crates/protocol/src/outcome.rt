@@ -1,5 +1,6 @@
 // The outcome of a call.
 use crate::state::Listener;
+use segment::options::Remarks;
 use segment::refusal::Check;
 use segment::refusal::Refusal;
 
@@ -15,11 +16,12 @@ pub enum Event {
     Done,
 }
 
-// A call's result: the listener next, what happened, and how many bytes were written to the output.
+// A call's result: the listener next, what happened, how many bytes were written to the output, and what was remarked on an opening's options.
 pub struct Outcome {
     pub listener: Listener,
     pub event: Event,
     pub written: usize,
+    pub remarks: Remarks,
 }
 
 // A start's result. Where it was refused, every call on the listener is.

@@ -7,7 +7,7 @@ use native.Mathlib.Omega.{arith}
 use lib.ListN.{length, drop, length-drop}
 use lib.Seq.{length-take-le}
 use lib.Dec.{eqb, leb}
-use borrow.Author.Tests.{leb-true, eqb-true, le-leb, eq-eqb}
+use borrow.Author.Tests.{leb-true, eqb-true, le-leb, eq-eqb, ne-eqb}
 use Rattle.segment.specs.Bytes.{byteAt}
 use Rattle.segment.specs.Header.{has, SYN, RST, ACK, FIN, fieldsOf, kindOf, optionArea}
 use Rattle.segment.specs.declared.header.Kind.the-variants.{Syn, Rst, Ack, Other}
@@ -17,8 +17,9 @@ use Rattle.segment.specs.declared.options.Codings.{Codings}
 use Rattle.segment.specs.declared.options.FastOpenOption.{FastOpenOption}
 use Rattle.segment.specs.declared.options.FastOpenOption.the-variants.{Absent, Request, Cookie}
 use Rattle.segment.specs.declared.options.Options.{Options}
-use Rattle.segment.specs.Options.{isCookieLength, cookieAt, isIn, prefixLength, optionIn, countsCoding, fastOpenOption, firstFastOpen, withOption, readFrom, readOptions, ifSyn, optionsOf, cookieBytes, codingOf}
+use Rattle.segment.specs.Options.{isCookieLength, cookieAt, isIn, prefixLength, optionIn, countsCoding, fastOpenOption, firstFastOpen, nothing, withOption, stands, readOptions, ifSyn, optionsOf, cookieBytes, codingOf}
 use Rattle.lists.proofs.Bools.{and-true, chosen}
+use Rattle.segment.proofs.ReadFrom.{both-readings}
 
 -- 4 to 16 bytes, an even number
 pub record CookieLength (n : ℕ) : Type 0 where
@@ -65,34 +66,25 @@ module _ (P : FastOpenOption → Type 0) (absent : P Absent) (g : Codings) (area
       each Older (t .1) i len (t .0) k h)
       (λ _. absent))
 
-  of-rest : (i skip : ℕ) (rest : List ℕ) (found : Options) → i + length rest ≤ length area → P (found .fast) → P (readFrom g area i skip rest found .fast)
-  unfolding readFrom withOption
-  of-rest i skip [] found h p = p
-  of-rest i (suc skip) (b ∷ rest) found h p = of-rest (i + 1) skip rest found (omega arith) p
-  of-rest i zero (kind ∷ rest) found h p =
-      let Q : Options → Type 0 = λ o. P (o .fast) in
-      let len = byteAt rest 0 in
-      let fits = leb 2 len && leb len (length rest + 1) in
-      let one = readFrom g area (i + 1) 0 rest found in
-      let on = readFrom g area (i + 1) (len - 1) rest (withOption g found area i len) in
-      chosen Q (eqb kind 0) found (cond (eqb kind 1) one (cond fits on found)) (λ _. p)
-      (λ _. chosen Q (eqb kind 1) one (cond fits on found) (λ _. of-rest (i + 1) 0 rest found (omega arith) p)
-      (λ _. chosen Q fits on found
-      (λ e.
-      let t = and-true (leb 2 len) (leb len (length rest + 1)) e in
-      let a = leb-true 2 len (t .0) in
-      let b = leb-true len (length rest + 1) (t .1) in
-      of-rest (i + 1) (len - 1) rest (withOption g found area i len) (omega arith)
-      (first-of (found .fast) (fastOpenOption g area i len) p (of-one i len a (omega arith))))
-      (λ _. p)))
-
   of-found : P (readOptions g area .fast)
-  unfolding readOptions
-  of-found = of-rest 0 0 area _ (omega arith) absent
+  unfolding readOptions withOption
+  of-found =
+      let on = withOption g area in
+      both-readings on stands on stands (λ found _. P (found .fast)) area
+      (λ a _ i len _ k h p. first-of (a .fast) (fastOpenOption g area i len) p (of-one i len k h)) (λ a _ i _ p. p) nothing nothing absent
 
   pub of-segment : (syn : Bool) → P (ifSyn syn (readOptions g area) .fast)
   of-segment true = of-found
   of-segment false = absent
+
+-- kind 34 is the new coding
+pub is-new : (area : List ℕ) (i len : ℕ) → byteAt area i ≡ 34 → isIn New area i len ≡ true
+unfolding isIn
+is-new area i len e = eq-eqb (byteAt area i) 34 e
+
+pub not-new : (area : List ℕ) (i len : ℕ) → (byteAt area i ≡ 34 → ⊥) → isIn New area i len ≡ false
+unfolding isIn
+not-new area i len e = ne-eqb (byteAt area i) 34 e
 
 -- an option that is in a coding has its prefix
 pub prefix-fits : (c : Coding) (area : List ℕ) (i len : ℕ) → isIn c area i len ≡ true → 2 ≤ len → prefixLength c ≤ len

@@ -12,5 +12,6 @@ pub mod ReadBack
 pub mod ReadFrom
 pub mod Total
 pub mod Places
+pub mod Remarks
 pub mod Writes
 pub mod Written

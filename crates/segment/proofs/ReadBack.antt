@@ -1,7 +1,7 @@
--- Reading back what was written: the fields, the options, the payload, and a checksum that is right. Assumes nothing.
+-- Reading back what was written: the fields, the options and what is remarked on them, the payload, and a checksum that is right. Assumes nothing.
 use Prim.Native.Nat.{ℕ, zero, suc, _+_, _-_, _*_, _/_, _%_, _<_, _≤_}
 use mathlib.Core.Path.{_≡_, refl, ap, ap₂, sym, _∙_, subst}
-use mathlib.Core.Bool.{Bool, true, false}
+use mathlib.Core.Bool.{Bool, true, false, cond}
 use mathlib.Core.List.{List, [], _∷_, _++_, append-assoc}
 use native.Mathlib.Omega.{arith}
 use lib.ListN.{length, drop, replicate, length-append}
@@ -11,7 +11,8 @@ use borrow.Author.Tests.{le-leb, le-ltb, ne-eqb}
 use Rattle.lists.specs.Bytes.{Bytes}
 use Rattle.segment.specs.Bytes.{byteAt, be16, be32, word, long}
 use Rattle.segment.specs.Header.{SYN, has, malformed, offsetOf, headerLength, fieldsOf, shapeOf, optionArea, payloadOf}
-use Rattle.segment.specs.Options.{nothing, isMssOption, mssOption, cookieAt, isIn, prefixLength, optionIn, countsCoding, fastOpenOption, withOption, readFrom, readOptions, optionsOf, cookieBytes}
+use Rattle.segment.specs.Options.{nothing, isMssOption, mssOption, cookieAt, isIn, prefixLength, optionIn, countsCoding, fastOpenOption, isCounted, withOption, stands, readFrom, readOptions, optionsOf, cookieBytes}
+use Rattle.segment.specs.Remarks.{noRemarks, isFastOpen, withRemark, brokenAt, remarksIn, remarksOf}
 use Rattle.segment.specs.Checksum.{onesSum, complement, pseudoHeader, segmentSum, checksumRight}
 use Rattle.segment.specs.Write.{padding, mssBytes, prefixBytes, fastOpenBytes, optionBytes, headerBytes, segmentWith, segmentBytes, optionAllowed, optionsFor, lengthFor, canWrite, written}
 use Rattle.segment.specs.declared.header.Header.{Header}
@@ -23,8 +24,10 @@ use Rattle.segment.specs.declared.options.Codings.{Codings}
 use Rattle.segment.specs.declared.options.FastOpenOption.{FastOpenOption}
 use Rattle.segment.specs.declared.options.FastOpenOption.the-variants.{Absent, Request, Cookie}
 use Rattle.segment.specs.declared.options.Options.{Options}
+use Rattle.segment.specs.declared.options.Remarks.{Remarks}
 use Rattle.segment.specs.declared.write.Outgoing.{Outgoing}
 use Rattle.segment.proofs.ReadFrom.{readAt, one-step}
+use Rattle.segment.proofs.Remarks.{other-remark, counted-remark}
 use Rattle.segment.proofs.Folded.{sum-with-complement}
 use Rattle.lists.proofs.ByteLists.{bytes-append}
 use Rattle.segment.proofs.OneFamily.{family, pseudo-even, pseudo-bytes}
@@ -43,10 +46,10 @@ back32 x h =
 -- Options
 
 -- nothing is found in padding
-padding-read : (g : Codings) (area : List ℕ) (i n : ℕ) (found : Options) → readFrom g area i 0 (replicate n 1) found ≡ found
+padding-read : {A : Type 0} (on : A → ℕ → ℕ → A) (off : A → ℕ → A) (i n : ℕ) (found : A) → readFrom on off i 0 (replicate n 1) found ≡ found
 unfolding readFrom
-padding-read g area i zero found = refl
-padding-read g area i (suc n) found = padding-read g area (i + 1) n found
+padding-read on off i zero found = refl
+padding-read on off i (suc n) found = padding-read on off (i + 1) n found
 
 -- the options of a written area: the MSS, and nothing, a request or a cookie by its place and length
 abbrev pub fastOpenFor : Bool → Coding → List ℕ → FastOpenOption
@@ -73,11 +76,11 @@ unfolding optionBytes
 prefix-begins mss New cookie = record { more = refl; long = refl; size = refl }
 prefix-begins mss Older cookie = record { more = refl; long = refl; size = refl }
 
--- with a Fast Open option the reader comes to it and then to the padding, whatever the cookie's length
-with-fast-open : (g : Codings) (mss : ℕ) (c : Coding) (cookie : List ℕ) → mss < 65536
-    → readOptions g (optionBytes mss true c cookie) ≡ record { mss = Given mss; fast = fastOpenOption g (optionBytes mss true c cookie) 4 (length cookie + prefixLength c) }
-unfolding readOptions withOption isMssOption mssOption fastOpenOption isIn optionBytes
-with-fast-open g mss c cookie h =
+-- with a Fast Open option a reading comes to it and then to the padding, whatever the cookie's length
+two-options : {A : Type 0} (on : A → ℕ → ℕ → A) (off : A → ℕ → A) (mss : ℕ) (c : Coding) (cookie : List ℕ) (found : A)
+    → readFrom on off 0 0 (optionBytes mss true c cookie) found ≡ on (on found 0 4) 4 (length cookie + prefixLength c)
+unfolding optionBytes
+two-options on off mss c cookie found =
     let area = optionBytes mss true c cookie in
     let body = mssBytes mss ++ fastOpenBytes c cookie in
     let pad = replicate {A = ℕ} (padding (length body)) 1 in
@@ -86,18 +89,24 @@ with-fast-open g mss c cookie h =
     let k = unpadded mss c cookie in
     let p = prefix-size c in
     let b = prefix-begins mss c cookie in
-    let found₁ = withOption g nothing area 0 4 in
-    let found₂ = withOption g found₁ area 4 len in
-    let e₁ : readAt g area 0 nothing ≡ readAt g area 4 found₁ =
-    one-step g area 0 nothing (omega arith) ∙ rw (le-leb 4 (length area - 0) (omega arith)) in
-    let e₂ : readAt g area 4 found₁ ≡ readAt g area (5 + (len - 1)) found₂ =
-    one-step g area 4 found₁ (omega arith) ∙ rw (b .more, b .long, b .size, le-leb 2 len (omega arith), le-leb len (length area - 4) (omega arith)) in
+    let found₁ = on found 0 4 in
+    let found₂ = on found₁ 4 len in
+    let e₁ : readAt on off area 0 found ≡ readAt on off area 4 found₁ =
+    one-step on off area 0 found (omega arith) ∙ rw (le-leb 4 (length area - 0) (omega arith)) in
+    let e₂ : readAt on off area 4 found₁ ≡ readAt on off area (5 + (len - 1)) found₂ =
+    one-step on off area 4 found₁ (omega arith) ∙ rw (b .more, b .long, b .size, le-leb 2 len (omega arith), le-leb len (length area - 4) (omega arith)) in
     let n : 5 + (len - 1) ≡ length body = omega arith in
     let d : drop (length body) area ≡ pad = drop-at body pad (length body) refl in
-    let e₃ : readAt g area (5 + (len - 1)) found₂ ≡ found₂ =
-    ap (λ (j : ℕ). readAt g area j found₂) n ∙ ap (λ (t : List ℕ). readFrom g area (length body) 0 t found₂) d
-    ∙ padding-read g area (length body) (padding (length body)) found₂ in
-    e₁ ∙ e₂ ∙ e₃ ∙ rw (back16 mss h)
+    let e₃ : readAt on off area (5 + (len - 1)) found₂ ≡ found₂ =
+    ap (λ (j : ℕ). readAt on off area j found₂) n ∙ ap (λ (t : List ℕ). readFrom on off (length body) 0 t found₂) d
+    ∙ padding-read on off (length body) (padding (length body)) found₂ in
+    e₁ ∙ e₂ ∙ e₃
+
+with-fast-open : (g : Codings) (mss : ℕ) (c : Coding) (cookie : List ℕ) → mss < 65536
+    → readOptions g (optionBytes mss true c cookie) ≡ record { mss = Given mss; fast = fastOpenOption g (optionBytes mss true c cookie) 4 (length cookie + prefixLength c) }
+unfolding readOptions withOption isMssOption mssOption fastOpenOption isIn optionBytes
+with-fast-open g mss c cookie h =
+    two-options (withOption g (optionBytes mss true c cookie)) stands mss c cookie nothing ∙ rw (back16 mss h)
 
 -- there it is an option with that cookie, if one may have it
 in-coding : (c : Coding) (cookie : List ℕ) → optionAllowed true (length cookie) ≡ true → optionIn c 4 (length cookie + prefixLength c) ≡ fastOpenFor true c cookie
@@ -126,6 +135,30 @@ pub options-back : (g : Codings) (mss : ℕ) (fast : Bool) (c : Coding) (cookie 
 options-back g mss false c cookie k h e = without-fast-open g mss c cookie h
 options-back g mss true c cookie k h e =
     with-fast-open g mss c cookie h ∙ ap (λ (f : FastOpenOption). record { mss = Given mss; fast = f }) (counted g mss c cookie k ∙ in-coding c cookie e)
+
+-- and remarks nothing but the place of the option, behind the MSS
+abbrev pub remarksFor : Bool → Remarks
+remarksFor fast = record { skipped = 0; used = cond fast 5 0; broken = 0 }
+
+mss-remark : (g : Codings) (mss : ℕ) (fast : Bool) (c : Coding) (cookie : List ℕ) → isFastOpen g (optionBytes mss fast c cookie) 0 4 ≡ false
+unfolding isFastOpen isIn optionBytes
+mss-remark g mss false c cookie = refl
+mss-remark g mss true c cookie = refl
+
+is-counted : (c : Coding) (cookie : List ℕ) → isCounted (fastOpenFor true c cookie) ≡ true
+is-counted c [] = refl
+is-counted c (b ∷ rest) = refl
+
+pub remarks-back : (g : Codings) (mss : ℕ) (fast : Bool) (c : Coding) (cookie : List ℕ) → countsCoding g c ≡ true
+    → optionAllowed fast (length cookie) ≡ true → remarksIn g (optionBytes mss fast c cookie) ≡ remarksFor fast
+unfolding remarksIn readFrom optionBytes
+remarks-back g mss false c cookie k e = other-remark g (optionBytes mss false c cookie) 0 4 noRemarks (mss-remark g mss false c cookie)
+remarks-back g mss true c cookie k e =
+    let area = optionBytes mss true c cookie in
+    let len = length cookie + prefixLength c in
+    two-options (withRemark g area) brokenAt mss c cookie noRemarks
+    ∙ ap (λ (r : Remarks). withRemark g area r 4 len) (other-remark g area 0 4 noRemarks (mss-remark g mss true c cookie))
+    ∙ counted-remark g area 4 len noRemarks (ap isCounted (counted g mss c cookie k ∙ in-coding c cookie e) ∙ is-counted c cookie)
 
 -- and the bytes of the cookie
 cookie-back : (mss : ℕ) (c : Coding) (cookie : List ℕ) → cookieBytes (fastOpenFor true c cookie) (optionBytes mss true c cookie) ≡ cookie
@@ -192,6 +225,7 @@ pub record ReadBack (g : Codings) (src dst : List ℕ) (f : Outgoing) (cookie pa
   pub flags : byteAt seg 13 ≡ f .flags
   pub area : optionArea seg ≡ optionsFor f cookie
   pub options : optionsOf g seg ≡ foundFor (f .mss) (f .fast) (f .coding) cookie
+  pub remarks : remarksOf g seg ≡ remarksFor (f .fast)
   pub bytes : f .fast ≡ true → cookieBytes (optionsOf g seg .fast) (optionArea seg) ≡ cookie
   pub content : payloadOf seg ≡ payload
   pub right : checksumRight src dst seg ≡ true
@@ -265,6 +299,11 @@ options-counted : (g : Codings) (f : Outgoing) (cookie seg : List ℕ) → count
 unfolding optionsOf
 options-counted g f cookie seg k flags area h s e = rw (flags, e, area) (options-back g (f .mss) (f .fast) (f .coding) cookie k h s)
 
+options-remarked : (g : Codings) (f : Outgoing) (cookie seg : List ℕ) → countsCoding g (f .coding) ≡ true → byteAt seg 13 ≡ f .flags → optionArea seg ≡ optionsFor f cookie
+    → optionAllowed (f .fast) (length cookie) ≡ true → has (f .flags) SYN ≡ true → remarksOf g seg ≡ remarksFor (f .fast)
+unfolding remarksOf
+options-remarked g f cookie seg k flags area s e = rw (flags, e, area) (remarks-back g (f .mss) (f .fast) (f .coding) cookie k s)
+
 cookie-counted : (g : Codings) (f : Outgoing) (cookie seg : List ℕ) → optionArea seg ≡ optionsFor f cookie → optionsOf g seg ≡ foundFor (f .mss) (f .fast) (f .coding) cookie
     → f .fast ≡ true → cookieBytes (optionsOf g seg .fast) (optionArea seg) ≡ cookie
 cookie-counted g f cookie seg area options e =
@@ -292,6 +331,7 @@ read-back g src dst f cookie payload out-len counts can syn h bs bd bc bp =
       flags = flags;
       area = area;
       options = options;
+      remarks = options-remarked g f cookie seg counts flags area (w .options) syn;
       bytes = cookie-counted g f cookie seg area options;
       content = payload-back src dst f cookie payload out-len w check;
       right = rw (w .one, sum-full src dst f cookie payload out-len w bs bd bc bp (h .flags));

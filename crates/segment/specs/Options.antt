@@ -70,6 +70,12 @@ fastOpenOption g area i len =
     cond (isIn New area i len) (optionIn New i len)
     (cond (isIn Older area i len && countsCoding g Older) (optionIn Older i len) Absent)
 
+-- a Fast Open option counts
+abbrev pub isCounted : FastOpenOption → Bool
+isCounted Absent = false
+isCounted (Request c) = true
+isCounted (Cookie c at len) = true
+
 -- of several that count the first is used
 abbrev pub firstMss : Mss → Mss → Mss
 firstMss NotGiven next = next
@@ -84,29 +90,34 @@ abbrev pub nothing : Options
 nothing = record { mss = NotGiven; fast = Absent }
 
 -- what is found so far, and the option of len bytes at i
-unfoldable pub withOption : Codings → Options → List ℕ → ℕ → ℕ → Options
-withOption g found area i len =
+unfoldable pub withOption : Codings → List ℕ → Options → ℕ → ℕ → Options
+withOption g area found i len =
     record {
       mss = firstMss (found .mss) (mssOption area i len);
       fast = firstFastOpen (found .fast) (fastOpenOption g area i len);
     }
 
--- One step, at a kind byte: kind 0 ends the list, kind 1 is one byte, and any other kind has a length of at least 2 that fits the bytes left, or the reading ends.
-abbrev pub byKind : ℕ → ℕ → ℕ → Options → Options → Options → Options
-byKind kind len left end one on =
-    cond (eqb kind 0) end (cond (eqb kind 1) one (cond (leb 2 len && leb len left) on end))
+-- One step, at a kind byte: kind 0 ends the list, kind 1 is one byte, and any other kind has a length of at least 2 that fits the bytes left, or the reading breaks off.
+abbrev pub byKind : {A : Type 0} → ℕ → ℕ → ℕ → A → A → A → A → A
+byKind kind len left end broken one on =
+    cond (eqb kind 0) end (cond (eqb kind 1) one (cond (leb 2 len && leb len left) on broken))
 
--- Reading the area from place i on, where `rest` stands. `skip` bytes of it belong to the option before.
-unfoldable pub readFrom : Codings → List ℕ → ℕ → ℕ → List ℕ → Options → Options
-readFrom g area i skip [] found = found
-readFrom g area i (suc skip) (b ∷ rest) found = readFrom g area (i + 1) skip rest found
-readFrom g area i zero (kind ∷ rest) found =
-    byKind kind (byteAt rest 0) (length rest + 1) found
-    (readFrom g area (i + 1) 0 rest found)
-    (readFrom g area (i + 1) (byteAt rest 0 - 1) rest (withOption g found area i (byteAt rest 0)))
+-- Reading from place i on, where `rest` stands; `skip` bytes of it belong to the option before. What is found so far goes on by `on` with each option, its place and its length, and by `off`
+-- with the place where the reading breaks off.
+unfoldable pub readFrom : {A : Type 0} → (A → ℕ → ℕ → A) → (A → ℕ → A) → ℕ → ℕ → List ℕ → A → A
+readFrom on off i skip [] found = found
+readFrom on off i (suc skip) (b ∷ rest) found = readFrom on off (i + 1) skip rest found
+readFrom on off i zero (kind ∷ rest) found =
+    byKind kind (byteAt rest 0) (length rest + 1) found (off found i)
+    (readFrom on off (i + 1) 0 rest found)
+    (readFrom on off (i + 1) (byteAt rest 0 - 1) rest (on found i (byteAt rest 0)))
+
+-- where it breaks off, what was found before stands
+abbrev pub stands : Options → ℕ → Options
+stands found i = found
 
 unfoldable pub readOptions : Codings → List ℕ → Options
-readOptions g area = readFrom g area 0 0 area nothing
+readOptions g area = readFrom (withOption g area) stands 0 0 area nothing
 
 -- Fast Open without the SYN flag is ignored
 abbrev pub ifSyn : Bool → Options → Options

@@ -3,40 +3,42 @@
 use Prim.Native.Nat.{ℕ, _+_, _-_, _<_, _≤_}
 use mathlib.Core.Path.{_≡_}
 use mathlib.Core.List.{List}
-use mathlib.Core.Bool.{Bool, true, false, cond, _&&_}
+use mathlib.Core.Bool.{true, cond}
 use lib.Dec.{eqb}
 use lib.ListN.{length}
 use Rattle.segment.specs.Bytes.{byteAt, wordAt}
-use Rattle.segment.specs.Options.{isMssOption, fastOpenOption}
+use Rattle.segment.specs.Options.{isMssOption, fastOpenOption, isCounted, readFrom}
+use Rattle.segment.specs.Remarks.{noRemarks, firstAt, withRemark, brokenAt}
 use Rattle.segment.specs.declared.options.Codings.{Codings}
 use Rattle.segment.specs.declared.options.Mss.{Mss}
 use Rattle.segment.specs.declared.options.Mss.the-variants.{NotGiven, Given}
 use Rattle.segment.specs.declared.options.FastOpenOption.{FastOpenOption}
-use Rattle.segment.specs.declared.options.FastOpenOption.the-variants.{Absent, Request, Cookie}
+use Rattle.segment.specs.declared.options.FastOpenOption.the-variants.{Absent}
 use Rattle.segment.specs.declared.options.Options.{Options}
+use Rattle.segment.specs.declared.options.Places.{Places}
 
--- a Fast Open option counts
-abbrev pub isCounted : FastOpenOption → Bool
-isCounted Absent = false
-isCounted (Request c) = true
-isCounted (Cookie c at len) = true
+-- one pass, which has the place of the Fast Open option among the remarks
+abbrev pub noPlaces : Places
+noPlaces = record { «mss_at» = 0; remarks = noRemarks }
 
--- the place, with the option of len bytes at i besides
-unfoldable pub firstMssAt : List ℕ → ℕ → ℕ → ℕ → ℕ
-firstMssAt area at i len = cond (eqb at 0 && isMssOption area i len) (i + 1) at
+abbrev pub withPlaces : Codings → List ℕ → Places → ℕ → ℕ → Places
+withPlaces g area p i len = record { «mss_at» = firstAt (p .«mss_at») (isMssOption area i len) i; remarks = withRemark g area (p .remarks) i len }
 
-unfoldable pub firstFastAt : Codings → List ℕ → ℕ → ℕ → ℕ → ℕ
-firstFastAt g area at i len = cond (eqb at 0 && isCounted (fastOpenOption g area i len)) (i + 1) at
+abbrev pub placesBroken : Places → ℕ → Places
+placesBroken p i = record { «mss_at» = p .«mss_at»; remarks = brokenAt (p .remarks) i }
 
--- what begins there
+unfoldable pub placesIn : Codings → List ℕ → Places
+placesIn g area = readFrom (withPlaces g area) placesBroken 0 0 area noPlaces
+
+-- what begins at a place
 unfoldable pub mssAt : List ℕ → ℕ → Mss
 mssAt area at = cond (eqb at 0) NotGiven (Given (wordAt area (at + 1)))
 
 unfoldable pub fastAt : Codings → List ℕ → ℕ → FastOpenOption
 fastAt g area at = cond (eqb at 0) Absent (fastOpenOption g area (at - 1) (byteAt area at))
 
-abbrev pub foundAt : Codings → List ℕ → ℕ → ℕ → Options
-foundAt g area mss-at fast-at = record { mss = mssAt area mss-at; fast = fastAt g area fast-at }
+abbrev pub foundAt : Codings → List ℕ → Places → Options
+foundAt g area p = record { mss = mssAt area (p .«mss_at»); fast = fastAt g area (p .remarks .used) }
 
 -- if there is a place, an option of four bytes, or one that counts, begins there and lies in the area
 abbrev pub MssFits : List ℕ → ℕ → Type 0
@@ -46,7 +48,3 @@ pub record FastFits (g : Codings) (area : List ℕ) (at : ℕ) : Type 0 where
   pub long : 0 < at → 2 ≤ byteAt area at
   pub fits : 0 < at → at + byteAt area at ≤ length area + 1
   pub counts : 0 < at → isCounted (fastAt g area at) ≡ true
-
-pub record Found (g : Codings) (area : List ℕ) (mss-at fast-at : ℕ) : Type 0 where
-  pub mss : MssFits area mss-at
-  pub fast : FastFits g area fast-at

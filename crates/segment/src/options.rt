@@ -4,10 +4,11 @@ use crate::header::option_area;
 use crate::header::part;
 use crate::number::word_at;
 ghost use mathlib.Core.Path.{_≡_};
-ghost use Prim.Native.Nat.{_+_, _≤_};
+ghost use Prim.Native.Nat.{_+_, _<_, _≤_};
 ghost use lib.ListN.{length};
-ghost use Rattle.segment.specs.Options.{isMssOption, isCookieLength, cookieAt, isIn, countsCoding, codingsOf, fastOpenOption, firstMss, readOptions, optionsOf, cookieBytes, codingOf};
-ghost use Rattle.segment.specs.Places.{isCounted, firstMssAt, firstFastAt, mssAt, fastAt, foundAt, MssFits, FastFits, Found};
+ghost use Rattle.segment.specs.Options.{isMssOption, isCookieLength, cookieAt, isIn, countsCoding, codingsOf, fastOpenOption, isCounted, firstMss, cookieBytes, codingOf};
+ghost use Rattle.segment.specs.Remarks.{noRemarks, isFastOpen, firstAt, withRemark, readingIn, readingOf};
+ghost use Rattle.segment.specs.Places.{mssAt, fastAt, placesBroken, placesIn, MssFits, FastFits};
 
 // The own MSS that an end may be set to lies between these.
 pub const LEAST_MSS: u32 = 536;
@@ -147,10 +148,72 @@ pub fn is_counted(fast: FastOpenOption) -> bool
     }
 }
 
-// Where the options that are used begin, the MSS and Fast Open: places count from 1, and 0 is none.
+// What the reader remarks on an area besides the options that count: how many Fast Open options it skipped for a bad length, where the used
+// one began, and where the reading broke off at a length that does not fit. Places are a kind byte's and count from 1; 0 is none.
+pub struct Remarks {
+    pub skipped: usize,
+    pub used: usize,
+    pub broken: usize,
+}
+
+// All that the reader reports: the options that count, and its remarks.
+pub struct Reading {
+    pub options: Options,
+    pub remarks: Remarks,
+}
+
+pub fn no_remarks() -> Remarks
+    ensures { λ r. ⌜ r ≡ noRemarks ⌝ }
+{
+    Remarks {
+        skipped: 0,
+        used: 0,
+        broken: 0,
+    }
+}
+
+// Whether the option is a Fast Open option in a coding that counts, whatever its length.
+fn is_fast_open(codings: Codings, area: &[u8], i: usize, len: usize) -> bool
+    requires { ⌜ (2 ≤ len) × (i + len ≤ length (now area)) ⌝ }
+    ensures { λ r. ⌜ r ≡ isFastOpen codings (now (area .entry)) i len ⌝ }
+{
+    if area[i] == 34 {
+        return true;
+    }
+    if counts_older(codings) {
+        return is_older(area, i, len);
+    }
+    false
+}
+
+// The remarks, with the option of `len` bytes at `i` besides.
+fn remark_option(
+    mut remarks: Remarks,
+    codings: Codings,
+    area: &[u8],
+    i: usize,
+    len: usize,
+) -> Remarks
+    requires { ⌜ (2 ≤ len) × (i + len ≤ length (now area)) ⌝ }
+    requires { ⌜ remarks .skipped ≤ i ⌝ }
+    ensures { λ r. ⌜ r ≡ withRemark codings (now (area .entry)) remarks i len ⌝ }
+{
+    if is_fast_open(codings, area, i, len) {
+        if is_counted(fast_open_option(codings, area, i, len)) {
+            if remarks.used == 0 {
+                remarks.used = i + 1;
+            }
+        } else {
+            remarks.skipped += 1;
+        }
+    }
+    remarks
+}
+
+// What one pass over an area finds: the place of the MSS that is used, and the remarks, which have that of the Fast Open option.
 struct Places {
     mss_at: usize,
-    fast_at: usize,
+    remarks: Remarks,
 }
 
 // Whether the option is an MSS that counts.
@@ -164,10 +227,10 @@ fn is_mss(area: &[u8], i: usize, len: usize) -> bool
     false
 }
 
-// Where each begins, with the option of `len` bytes at `i` besides.
+// Where the MSS that is used begins, with the option of `len` bytes at `i` besides.
 fn first_mss_at(mss_at: usize, area: &[u8], i: usize, len: usize) -> usize
     requires { ⌜ (2 ≤ len) × (i + len ≤ length (now area)) ⌝ }
-    ensures { λ r. ⌜ r ≡ firstMssAt (now (area .entry)) «mss_at» i len ⌝ }
+    ensures { λ r. ⌜ r ≡ firstAt «mss_at» (isMssOption (now (area .entry)) i len) i ⌝ }
 {
     if mss_at == 0 {
         if is_mss(area, i, len) {
@@ -177,53 +240,49 @@ fn first_mss_at(mss_at: usize, area: &[u8], i: usize, len: usize) -> usize
     mss_at
 }
 
-fn first_fast_at(fast_at: usize, codings: Codings, area: &[u8], i: usize, len: usize) -> usize
-    requires { ⌜ (2 ≤ len) × (i + len ≤ length (now area)) ⌝ }
-    ensures { λ r. ⌜ r ≡ firstFastAt codings (now (area .entry)) «fast_at» i len ⌝ }
+// The reading breaks off at `i`; what was found before stands.
+fn break_off(mss_at: usize, mut remarks: Remarks, i: usize) -> Places
+    requires { ⌜ i < 18446744073709551615 ⌝ }
+    ensures { λ r. ⌜ r ≡ placesBroken (record { «mss_at» = «mss_at»; remarks = remarks }) i ⌝ }
 {
-    if fast_at == 0 {
-        if is_counted(fast_open_option(codings, area, i, len)) {
-            return i + 1;
-        }
-    }
-    fast_at
+    remarks.broken = i + 1;
+    Places { mss_at, remarks }
 }
 
-// Goes over an option area. Where a length does not fit, the reading ends and what was found before stands.
+// Goes over an option area.
 fn find_options(codings: Codings, area: &[u8]) -> Places
-    ensures { λ r. ⌜ Found codings (now (area .entry)) (r .«mss_at») (r .«fast_at») ⌝ }
-    ensures { λ r. ⌜ foundAt codings (now (area .entry)) (r .«mss_at») (r .«fast_at») ≡ readOptions codings (now (area .entry)) ⌝ }
+    ensures { λ r. ⌜ r ≡ placesIn codings (now (area .entry)) ⌝ }
 {
     let n = area.len();
     let mut mss_at: usize = 0;
-    let mut fast_at: usize = 0;
+    let mut remarks = no_remarks();
     let mut i = 0;
     while i < n {
         let kind = area[i];
         if kind == 0 {
-            return Places { mss_at, fast_at };
+            return Places { mss_at, remarks };
         }
         if kind == 1 {
             i += 1;
             continue;
         }
         if n - i < 2 {
-            return Places { mss_at, fast_at };
+            return break_off(mss_at, remarks, i);
         }
         let len = area[i + 1] as usize;
         if len < 2 {
-            return Places { mss_at, fast_at };
+            return break_off(mss_at, remarks, i);
         }
         if n - i < len {
-            return Places { mss_at, fast_at };
+            return break_off(mss_at, remarks, i);
         }
         let size = first_mss_at(mss_at, area, i, len);
-        let fast = first_fast_at(fast_at, codings, area, i, len);
+        let more = remark_option(remarks, codings, area, i, len);
         mss_at = size;
-        fast_at = fast;
+        remarks = more;
         i += len;
     }
-    Places { mss_at, fast_at }
+    Places { mss_at, remarks }
 }
 
 // What begins at a place.
@@ -248,28 +307,36 @@ fn fast_from(codings: Codings, area: &[u8], at: usize) -> FastOpenOption
     FastOpenOption::Absent
 }
 
-// Reads an option area.
-pub fn read_options(codings: Codings, area: &[u8]) -> Options
-    ensures { λ r. ⌜ r ≡ readOptions codings (now (area .entry)) ⌝ }
+// Reads an option area. Where a length does not fit, the reading breaks off and what was found before stands.
+pub fn read_options(codings: Codings, area: &[u8]) -> Reading
+    ensures { λ r. ⌜ r ≡ readingIn codings (now (area .entry)) ⌝ }
 {
     let found = find_options(codings, area);
+    let remarks = found.remarks;
     let mss = mss_from(area, found.mss_at);
-    let fast = fast_from(codings, area, found.fast_at);
-    Options { mss, fast }
+    let fast = fast_from(codings, area, remarks.used);
+    Reading {
+        options: Options { mss, fast },
+        remarks,
+    }
 }
 
-// The options of a segment that count: without SYN no Fast Open option does, and a malformed segment has none.
-pub fn segment_options(codings: Codings, seg: &[u8]) -> Options
-    ensures { λ r. ⌜ r ≡ optionsOf codings (now (seg .entry)) ⌝ }
+// The same of a segment: without SYN no Fast Open option counts and nothing is remarked, and a malformed segment has no options.
+pub fn segment_options(codings: Codings, seg: &[u8]) -> Reading
+    ensures { λ r. ⌜ r ≡ readingOf codings (now (seg .entry)) ⌝ }
 {
     let found = read_options(codings, option_area(seg));
     if has_syn(seg) {
         return found;
     }
-    let mss = found.mss;
-    Options {
-        mss,
-        fast: FastOpenOption::Absent,
+    let options = found.options;
+    let mss = options.mss;
+    Reading {
+        options: Options {
+            mss,
+            fast: FastOpenOption::Absent,
+        },
+        remarks: no_remarks(),
     }
 }
 

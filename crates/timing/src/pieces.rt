@@ -116,8 +116,9 @@ fn cookie_part(fast: FastOpenOption) -> u64 {
 // What is read of an area, in one number.
 fn add_options(digest: u64, area: &[u8; 32]) -> u64 {
     let found = read_options(Codings::NewOnly, area);
-    let mss = found.mss;
-    let fast = found.fast;
+    let options = found.options;
+    let mss = options.mss;
+    let fast = options.fast;
     wrapping_add_u64(digest, wrapping_add_u64(mss_part(mss), cookie_part(fast)))
 }
 

@@ -1,26 +1,14 @@
 -- `segment::options::fast_open_option` meets its contract: in the new coding, in the older one where it counts, or in none.
 -- Assumes nothing.
-use Prim.Native.Nat.{ℕ}
-use mathlib.Core.Path.{_≡_, sym, _∙_}
-use mathlib.Core.Bool.{true, false, and-false}
-use mathlib.Core.List.{List}
+use mathlib.Core.Path.{sym, _∙_}
+use mathlib.Core.Bool.{and-false}
 use native.Mathlib.Omega.{arith}
-use borrow.Author.Tests.{eq-eqb, ne-eqb}
-use Rattle.segment.specs.Bytes.{byteAt}
-use Rattle.segment.specs.declared.options.Coding.the-variants.{New, Older}
-use Rattle.segment.specs.Options.{isIn, optionIn, fastOpenOption}
-use Rattle.segment.proofs.Cookie.{prefix-fits}
+use Rattle.segment.specs.declared.options.Coding.the-variants.{Older}
+use Rattle.segment.specs.Options.{optionIn, fastOpenOption}
+use Rattle.segment.proofs.Cookie.{is-new, not-new, prefix-fits}
 use borrow.Author.Needs.{needs}
 use Rattle.segment.proofs.options.fast_open_option.Statement.{statement}
 use Rattle.segment.proofs.options.fast_open_option.Tie as tie
-
-is-new : (area : List ℕ) (i len : ℕ) → byteAt area i ≡ 34 → isIn New area i len ≡ true
-unfolding isIn
-is-new area i len e = eq-eqb (byteAt area i) 34 e
-
-not-new : (area : List ℕ) (i len : ℕ) → (byteAt area i ≡ 34 → ⊥) → isIn New area i len ≡ false
-unfolding isIn
-not-new area i len e = ne-eqb (byteAt area i) 34 e
 
 returns : tie.Need-returns
 unfolding fastOpenOption optionIn
