@@ -6,11 +6,9 @@ use mathlib.Core.List.{List, [], _∷_}
 use mathlib.Core.Bool.{Bool, true, false, cond, not, _&&_, _||_}
 use lib.Dec.{ltb}
 use Rattle.segment.specs.Refusal.{Checks}
-use Rattle.segment.specs.Options.{readOptions}
 use Rattle.segment.specs.declared.refusal.Refusal.the-variants.{Flags, NameInUse, TableFull}
 use Rattle.segment.specs.declared.refusal.Check.{Check}
 use Rattle.segment.specs.declared.refusal.Check.the-variants.{Clear, Refused}
-use Rattle.segment.specs.declared.options.Codings.{Codings}
 use Rattle.segment.specs.declared.options.FastOpenOption.{FastOpenOption}
 use Rattle.segment.specs.declared.options.FastOpenOption.the-variants.{Absent}
 use Rattle.segment.specs.declared.header.Header.{Header}
@@ -59,9 +57,9 @@ openingCheck Clear false = openings.Repeat
 abbrev pub enabledWith : StoredSettings → ℕ → Bool
 enabledWith g pending = g .on && ltb pending (g .limit)
 
--- the option by which a new opening is answered, from its option area: none where cookies are not enabled
-abbrev pub countedIn : Bool → Codings → List ℕ → FastOpenOption
-countedIn enabled g area = cond enabled (readOptions g area .fast) Absent
+-- the option by which a new opening is answered, from the one that was read: none where cookies are not enabled
+abbrev pub countedWith : Bool → FastOpenOption → FastOpenOption
+countedWith enabled fast = cond enabled fast Absent
 
 -- a fresh cookie goes with the SYN-ACK to an option
 abbrev pub isFreshFor : Keys → List ℕ → Carried → Bool

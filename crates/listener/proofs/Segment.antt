@@ -9,8 +9,8 @@ use borrow.Author.Tests.{ltb-true, not-false}
 use Rattle.lists.proofs.Elements.{set-same}
 use Rattle.segment.specs.Refusal.{refusal}
 use Rattle.segment.specs.Header.{malformed, fieldsOf, kindOf, optionArea, payloadOf}
-use Rattle.segment.specs.Options.{codingOf}
-use Rattle.segment.specs.Places.{isCounted}
+use Rattle.segment.specs.Options.{readOptions, isCounted, codingOf}
+use Rattle.segment.specs.Remarks.{noRemarks, remarksOf, readingIn}
 use Rattle.segment.specs.Write.{synAckBytes}
 use Rattle.segment.specs.declared.refusal.Refusal.{Refusal}
 use Rattle.segment.specs.declared.refusal.Refusal.the-variants.{Flags}
@@ -19,10 +19,13 @@ use Rattle.segment.specs.declared.refusal.Check.the-variants.{Clear, Refused}
 use Rattle.segment.specs.declared.options.Coding.{Coding}
 use Rattle.segment.specs.declared.options.Coding.the-variants.{New}
 use Rattle.segment.specs.declared.options.FastOpenOption.{FastOpenOption}
+use Rattle.segment.specs.declared.options.Remarks.{Remarks}
+use Rattle.segment.specs.declared.options.Reading.{Reading}
 use Rattle.segment.specs.declared.header.Header.{Header}
 use Rattle.segment.specs.declared.header.Kind.{Kind}
 use Rattle.segment.specs.declared.header.Kind.the-variants.{Syn, Rst, Ack, Other}
 use Rattle.segment.proofs.Malformed.{area-is, payload-is, offset-is}
+use Rattle.segment.proofs.Remarks.{syn-remarks, later-remarks}
 use Rattle.endpoint.specs.Address.{block}
 use Rattle.endpoint.specs.Checks.{isUntimely}
 use Rattle.endpoint.proofs.Clear.{every-check}
@@ -40,9 +43,9 @@ use Rattle.protocol.specs.declared.slots.Status.the-variants.{SynReceived}
 use Rattle.protocol.specs.declared.slots.Slot.{Slot}
 use Rattle.protocol.specs.declared.slots.Scan.{Scan}
 use Rattle.protocol.proofs.Table.{not-free}
-use Rattle.protocol.proofs.Step.{refusedWith, segment-refused, segment-writes-none, segment-writes, wired-formed}
+use Rattle.protocol.proofs.Step.{outcome, refusedWith, segment-refused, segment-writes-none, segment-writes, wired-formed}
 use Rattle.table.proofs.ScanOf.{in-table}
-use Rattle.decisions.specs.Parts.{hasKind, isOpening, openingChecks, openingCheck, enabledWith, countedIn, laterChecks, laterEvent, laterSlot}
+use Rattle.decisions.specs.Parts.{hasKind, isOpening, openingChecks, openingCheck, enabledWith, countedWith, laterChecks, laterEvent, laterSlot}
 use Rattle.decisions.specs.declared.action.Opened.{Opened}
 use Rattle.decisions.specs.declared.checks.OpeningCheck.{OpeningCheck}
 use Rattle.decisions.specs.declared.checks.OpeningCheck.the-variants as openings
@@ -91,18 +94,34 @@ module _ (l : Listener) (t : ℕ) (src seg : List ℕ) (iss out-len : ℕ) (firs
     abbrev synAck : Slot → Bool → Coding → List ℕ → List ℕ
     synAck x fresh coding cookie = synAckBytes (ownAddress (l .local)) src (synAckFrom (l .local) (l .settings .mss) x fresh coding) cookie out-len
 
+    -- what its option area is, and what is read from it
+    formed : malformed seg ≡ false
+    formed = wired-formed (l .local) (isUntimely (l .clock) t) src seg out-len first
+
+    abbrev Read : List ℕ → Reading → Type 0
+    Read area r = (area ≡ take (4 * h .offset - 20) (drop 20 seg)) × (r ≡ readingIn (l .settings .codings) area)
+
+    area-as : {area : List ℕ} → area ≡ take (4 * h .offset - 20) (drop 20 seg) → area ≡ optionArea seg
+    area-as ea = rw (eh, offset-is seg) at ea ∙ area-is seg formed
+
+    reading-as : {area : List ℕ} {r : Reading} → Read area r → r ≡ readingIn (l .settings .codings) (optionArea seg)
+    reading-as er = er .1 ∙ ap (readingIn (l .settings .codings)) (area-as (er .0))
+
+    remarks-are : {area : List ℕ} {r : Reading} → Read area r → r .remarks ≡ remarksOf (l .settings .codings) seg
+    remarks-are er = ap (λ (r : Reading). r .remarks) (reading-as er) ∙ sym (syn-remarks (l .settings .codings) seg kind-is)
+
     module _ {c : OpeningCheck} (ec : c ≡ openingCheck found-checks (isFree (s .status))) where
       pub opening-refused : {r : Refusal} → c ≡ openings.Refused r → (step l this ≡ refusedWith l r) × (outputOf l this ≡ [])
       opening-refused q = segment-refused l t src seg iss out-len first (sym checks-are ∙ was-refused found-checks (isFree (s .status)) (sym ec ∙ q))
 
       -- a repeat changes nothing but the clock
-      pub repeated : c ≡ openings.Repeat → (cookie : List ℕ)
-          → (record { listener = moved l t (l .slots); event = events.Retransmission; written = length (synAck s false New cookie) } ≡ step l this) × (outputOf l this ≡ synAck s false New cookie)
-      repeated q cookie =
+      pub repeated : c ≡ openings.Repeat → {area : List ℕ} {r : Reading} → Read area r → (cookie : List ℕ)
+          → (outcome (moved l t (l .slots)) events.Retransmission (length (synAck s false New cookie)) (r .remarks) ≡ step l this) × (outputOf l this ≡ synAck s false New cookie)
+      repeated q er cookie =
           let was = was-repeat found-checks (isFree (s .status)) (sym ec ∙ q) in
           let known = rw slot-is at (was .1) in
           segment-writes l t src seg iss out-len first (sym checks-are ∙ was .0) {e = events.Retransmission} {s = s} (rw (kind-is, known)) (rw (kind-is, known) slot-is)
-          (rw (slot-is, set-same (l .slots) (scanFor l t (sender src seg) .place) freeSlot)) {fresh = false} {coding = New} {cookie = cookie} (rw (kind-is, known)) (λ y. absurd (false≢true y)) (λ y. absurd (false≢true y)) refl
+          (rw (slot-is, set-same (l .slots) (scanFor l t (sender src seg) .place) freeSlot)) (remarks-are er) {fresh = false} {coding = New} {cookie = cookie} (rw (kind-is, known)) (λ y. absurd (false≢true y)) (λ y. absurd (false≢true y)) refl
 
       module _ (q : c ≡ openings.New) where
         was : (found-checks ≡ Clear) × (isFree (s .status) ≡ true)
@@ -116,49 +135,43 @@ module _ (l : Listener) (t : ℕ) (src seg : List ℕ) (iss out-len : ℕ) (firs
             let some : not (isFree (s .status)) || ltb (scan .free) 64 ≡ true = not-false _ (every-check (openingChecks s (ltb (scan .free) 64) h) (was .0) .1 .0) in
             ltb-true (scan .free) 64 (rw (was .1) at some)
 
-        module _ {enabled : Bool} {area : List ℕ} {fast : FastOpenOption} (ee : enabled ≡ enabledWith (l .settings) (scan .pending))
-            (ea : area ≡ take (4 * h .offset - 20) (drop 20 seg)) (eo : fast ≡ countedIn enabled (l .settings .codings) area) where
-          formed : malformed seg ≡ false
-          formed = wired-formed (l .local) (isUntimely (l .clock) t) src seg out-len first
-
+        module _ {enabled : Bool} {area : List ℕ} {reading : Reading} {fast : FastOpenOption} (ee : enabled ≡ enabledWith (l .settings) (scan .pending))
+            (er : Read area reading) (eo : fast ≡ countedWith enabled (reading .options .fast)) where
           enabled-is : enabled ≡ cookiesEnabled v
           enabled-is = ee ∙ enabled-with v (scan .pending) (rw scan-is)
 
-          area-as : area ≡ optionArea seg
-          area-as = rw (eh, offset-is seg) at ea ∙ area-is seg formed
-
-          fast-as : fast ≡ countedIn (cookiesEnabled v) (l .settings .codings) (optionArea seg)
-          fast-as = rw (enabled-is, area-as) at eo
+          fast-as : fast ≡ countedWith (cookiesEnabled v) (readOptions (l .settings .codings) (optionArea seg) .fast)
+          fast-as = rw (enabled-is, reading-as er) at eo
 
           -- a new connection, early or not, with its slot and whether a fresh cookie goes with its SYN-ACK
           written-new : {early fresh : Bool} {n : ℕ} {e : Event} {new : Slot} {coding : Coding} {cookie : List ℕ} → early ≡ isEarly v (block src) seg → fresh ≡ isFresh v (block src) seg → n ≡ accepts (l .settings) seg
               → e ≡ newEvent early n → new ≡ newSlot b (h .source) (h .seq) iss (newStatus early n) → (fresh ≡ true → coding ≡ codingFor v seg)
               → (fresh ≡ true → cookie ≡ cookieUnder (l .keys .present) b)
-              → (record { listener = put l t (scan .free) new; event = e; written = length (synAck new fresh coding cookie) } ≡ step l this) × (outputOf l this ≡ synAck new fresh coding cookie)
+              → (outcome (put l t (scan .free) new) e (length (synAck new fresh coding cookie)) (reading .remarks) ≡ step l this) × (outputOf l this ≡ synAck new fresh coding cookie)
           written-new {early} {fresh} {n} {e} {new} {coding} {cookie} early-is fresh-is n-is e-is new-is coding-is cookie-is =
               let event-is : e ≡ segmentEvent v (block src) seg k = e-is ∙ rw (kind-is, unknown, early-is, n-is) in
               segment-writes l t src seg iss out-len first (sym checks-are ∙ was .0) {e = e} {s = new} event-is
               (rw (sym event-is, e-is) (new-is ∙ rw (eb, eh) (new-slot v (heldUntil v t) (block src) (fieldsOf seg) iss early n)))
-              (rw (e-is, scan-is) (new-place l t (scanFor l t (sender src seg)) new early n)) {fresh = fresh} {coding = coding} {cookie = cookie}
+              (rw (e-is, scan-is) (new-place l t (scanFor l t (sender src seg)) new early n)) (remarks-are er) {fresh = fresh} {coding = coding} {cookie = cookie}
               (fresh-is ∙ rw (sym event-is, e-is) (new-fresh v (block src) seg early n))
               coding-is
               (rw eb at cookie-is)
               (rw e-is (new-writes early n))
 
           pub opened-plain : isCounted fast ≡ false → {new : Slot} → new ≡ newSlot b (h .source) (h .seq) iss SynReceived → (cookie : List ℕ)
-              → (record { listener = put l t (scan .free) new; event = events.Regular; written = length (synAck new false New cookie) } ≡ step l this) × (outputOf l this ≡ synAck new false New cookie)
+              → (outcome (put l t (scan .free) new) events.Regular (length (synAck new false New cookie)) (reading .remarks) ≡ step l this) × (outputOf l this ≡ synAck new false New cookie)
           opened-plain none e cookie =
               let p = opens-plain v (block src) seg kind-is fast-as none in
               written-new {early = false} {fresh = false} (sym (p .0)) (sym (p .1)) refl refl e (λ y. absurd (false≢true y)) (λ y. absurd (false≢true y))
 
           pub opened-by-option : isCounted fast ≡ true → {payload : List ℕ} → payload ≡ drop (4 * h .offset) seg → {coding : Coding} → coding ≡ codingOf fast → (r : Opened)
               → Opens (l .keys) b h iss (found fast area) (min (length payload) (l .settings .«early_room»)) r
-              → (record { listener = put l t (scan .free) (r .slot); event = r .event; written = length (synAck (r .slot) (r .fresh) coding (r .cookie)) } ≡ step l this)
+              → (outcome (put l t (scan .free) (r .slot)) (r .event) (length (synAck (r .slot) (r .fresh) coding (r .cookie))) (reading .remarks) ≡ step l this)
               × (outputOf l this ≡ synAck (r .slot) (r .fresh) coding (r .cookie))
           opened-by-option some {payload} ep coding-is r opens =
               let p = opens-by-option v (block src) seg kind-is fast-as some in
               let payload-as : payload ≡ payloadOf seg = rw (eh, offset-is seg) at ep ∙ payload-is seg formed in
-              written-new {early = right (l .keys) b (found fast area)} {n = min (length payload) (l .settings .«early_room»)} (rw (area-as, eb) (p .0)) (opens .1 .1 .0 ∙ rw (area-as, eb) (p .1)) (rw payload-as) (opens .0) (opens .1 .0) (λ _. coding-is ∙ opens-in-coding v (block src) seg kind-is fast-as some) (opens .1 .1 .1)
+              written-new {early = right (l .keys) b (found fast area)} {n = min (length payload) (l .settings .«early_room»)} (rw (area-as (er .0), eb) (p .0)) (opens .1 .1 .0 ∙ rw (area-as (er .0), eb) (p .1)) (rw payload-as) (opens .0) (opens .1 .0) (λ _. coding-is ∙ opens-in-coding v (block src) seg kind-is fast-as some) (opens .1 .1 .1)
 
   -- A later segment, with the place of its name and the slot there
   module _ {x : Kind} (ek : x ≡ kindOf (h .flags)) (later : isOpening x ≡ false) {i : ℕ} {s : Slot} (ei : i ≡ scanOf t b (h .source) (l .slots) .place) (es : s ≡ slotAt l i) where
@@ -204,10 +217,16 @@ module _ (l : Listener) (t : ℕ) (src seg : List ℕ) (iss out-len : ℕ) (firs
       quiet Syn = refl
       quiet Other = refl
 
+      -- and without SYN nothing is remarked
+      none-remarked : remarksOf (l .settings .codings) seg ≡ noRemarks
+      none-remarked =
+          later-remarks (l .settings .codings) seg (λ y. absurd (false≢true (sym no-opening ∙ ap isOpening y)))
+          (λ y. let other = rw (kind-as ∙ y) at clear in absurd (false≢true (sym (every-check (laterChecks s h Other) other .0))))
+
       pub later-done : {z : Slot} {e : Event} → z ≡ laterSlot s (heldUntil v t) x → e ≡ laterEvent x
-          → (record { listener = put l t i z; event = e; written = 0 } ≡ step l this) × (outputOf l this ≡ [])
+          → (step l this ≡ outcome (put l t i z) e 0 noRemarks) × (outputOf l this ≡ [])
       later-done {z} {e} ez ee =
           let event-is : e ≡ segmentEvent v (block src) seg k = ee ∙ rw kind-as (later-event v (block src) seg k no-opening) in
           segment-writes-none l t src seg iss out-len first (sym later-are ∙ clear) event-is
           (ez ∙ rw (peer-is, kind-as, sym (later-event v (block src) seg k no-opening)) (later-slot v (heldUntil v t) (block src) (fieldsOf seg) iss k))
-          (rw ee (moves x clear z)) (rw ee (quiet x))
+          (rw ee (moves x clear z)) (sym none-remarked) (rw ee (quiet x))

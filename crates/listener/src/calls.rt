@@ -70,28 +70,30 @@ ghost use Rattle.protocol.specs.Call.{Call};
 ghost use Rattle.protocol.specs.Refusals.{releaseOf};
 ghost use Rattle.protocol.specs.Step.{blank, freshListener, neverStarted, startOf, step, outputOf, pendingNumber};
 
-// A refused call changes nothing.
-fn refused(l: Listener, why: Refusal) -> Outcome
-    ensures { λ r. ⌜ r ≡ record { listener = l; event = Event.Refused why; written = 0; remarks = noRemarks } ⌝ }
+// What a call comes to that writes nothing and remarks nothing.
+fn quiet(l: Listener, event: Event) -> Outcome
+    ensures { λ r. ⌜ r ≡ record { listener = l; event = event; written = 0; remarks = noRemarks } ⌝ }
 {
     Outcome {
         listener: l,
-        event: Event::Refused(why),
+        event,
         written: 0,
         remarks: no_remarks(),
     }
 }
 
-// Done, with nothing written and no verdict.
+// A refused call changes nothing.
+fn refused(l: Listener, why: Refusal) -> Outcome
+    ensures { λ r. ⌜ r ≡ record { listener = l; event = Event.Refused why; written = 0; remarks = noRemarks } ⌝ }
+{
+    quiet(l, Event::Refused(why))
+}
+
+// Done, with no verdict.
 fn done(l: Listener) -> Outcome
     ensures { λ r. ⌜ r ≡ record { listener = l; event = Event.Done; written = 0; remarks = noRemarks } ⌝ }
 {
-    Outcome {
-        listener: l,
-        event: Event::Done,
-        written: 0,
-        remarks: no_remarks(),
-    }
+    quiet(l, Event::Done)
 }
 
 // A listener with no connection, at time 0.
@@ -324,12 +326,7 @@ pub fn segment(l: Listener, time: u64, src: &[u8], seg: &[u8], iss: u32, out: &m
                     let changed = later_slot(slot, time + (settings.hold as u64), kind);
                     next.slots[place] = changed;
                     next.clock = time;
-                    return Outcome {
-                        listener: next,
-                        event: later_event(kind),
-                        written: 0,
-                        remarks: no_remarks(),
-                    };
+                    return quiet(next, later_event(kind));
                 }
             }
         }

@@ -9,6 +9,7 @@ use lib.Dec.{ltb}
 use lib.ListN.{length, getD, set, List·getD-eq-default}
 use Rattle.segment.specs.Refusal.{order, Checks, refusal}
 use Rattle.segment.specs.Header.{fieldsOf, kindOf}
+use Rattle.segment.specs.Remarks.{remarksOf}
 use Rattle.lists.proofs.Bools.{and-true}
 use Rattle.segment.proofs.NumberOf.{none-applies}
 use Rattle.segment.specs.declared.refusal.Refusal.the-variants.{TableFull}
@@ -143,6 +144,7 @@ module _ (l : Listener) (t : ℕ) (src seg : List ℕ) (iss out-len : ℕ) (syn 
         event = newEvent early (accepts (l .settings) seg);
         written = length (synAckTo (view l t (sender src seg)) src (slotFor early src seg iss (accepts (l .settings) seg))
             (isFresh (view l t (sender src seg)) (block src) seg) (codingFor (view l t (sender src seg)) seg) out-len);
+        remarks = remarksOf (l .settings .codings) seg;
       }
   unfolding step after
   step-new true e c = rw (c, syn, new, e)

@@ -8,6 +8,7 @@ use lib.ListN.{length}
 use borrow.Author.Tests.{eq-eqb, ne-eqb, leb-true, not-false}
 use Rattle.segment.specs.Refusal.{refusal}
 use Rattle.segment.specs.Header.{malformed, fieldsOf, kindOf}
+use Rattle.segment.specs.Remarks.{noRemarks, remarksOf}
 use Rattle.segment.specs.Write.{synAckBytes}
 use Rattle.lists.specs.Bytes.{overwrite}
 use Rattle.segment.specs.declared.refusal.Refusal.{Refusal}
@@ -16,6 +17,7 @@ use Rattle.segment.specs.declared.refusal.Check.{Check}
 use Rattle.segment.specs.declared.refusal.Check.the-variants.{Clear, Refused}
 use Rattle.segment.specs.declared.options.Coding.{Coding}
 use Rattle.segment.specs.declared.options.Coding.the-variants.{New}
+use Rattle.segment.specs.declared.options.Remarks.{Remarks}
 use Rattle.segment.specs.declared.header.Kind.{Kind}
 use Rattle.lists.proofs.Bools.{and-true}
 use Rattle.segment.proofs.Exchange.{syn-ack-without}
@@ -41,11 +43,14 @@ use Rattle.protocol.specs.declared.slots.Slot.{Slot}
 use Rattle.protocol.specs.declared.slots.Scan.{Scan}
 use Rattle.protocol.proofs.Refusals.{checked-settings, checked-key, checked-release, checked-resend, checked-segment, step-refused, step-done, output-refused, output-done}
 
+abbrev pub outcome : Listener → Event → ℕ → Remarks → Outcome
+outcome l e n r = record { listener = l; event = e; written = n; remarks = r }
+
 abbrev pub refusedWith : Listener → Refusal → Outcome
-refusedWith l r = record { listener = l; event = events.Refused r; written = 0 }
+refusedWith l r = outcome l (events.Refused r) 0 noRemarks
 
 abbrev pub doneWith : Listener → Outcome
-doneWith l = record { listener = l; event = events.Done; written = 0 }
+doneWith l = outcome l events.Done 0 noRemarks
 
 -- a SYN-ACK without a fresh cookie is the same whatever cookie and coding are at hand, and so is one whose cookie is the fresh one, in its coding
 pub any-cookie : (own a : List ℕ) (v : View) (s : Slot) (fresh : Bool) (x y : Coding) (c d : List ℕ) (out-len : ℕ) → (fresh ≡ true → x ≡ y) → (fresh ≡ true → c ≡ d)
@@ -146,7 +151,7 @@ module _ (l : Listener) (t : ℕ) where
             (step-refused l (resend t a p out-len) j, output-refused l (resend t a p out-len) j)
 
         pub resend-done : isWaiting (v .slot .status) ≡ true
-            → (step l (resend t a p out-len) ≡ record { listener = moved l t (l .slots); event = events.Done; written = length (synAckTo v a (v .slot) false New out-len) })
+            → (step l (resend t a p out-len) ≡ outcome (moved l t (l .slots)) events.Done (length (synAckTo v a (v .slot) false New out-len)) noRemarks)
             × (outputOf l (resend t a p out-len) ≡ synAckTo v a (v .slot) false New out-len)
         unfolding after
         resend-done q =
@@ -184,10 +189,10 @@ module _ (l : Listener) (t : ℕ) where
           let j = passed _ _ _ (checked-segment l t src seg iss out-len) first ∙ q in
           (step-refused l this j, output-refused l this j)
 
-      -- one that is done, with the event, the slot, and the fresh cookie if there is one, that it came to
+      -- one that is done, with the event, the slot, the remarks, and the fresh cookie if there is one, that it came to
       module _ (second : refusal (kindChecks the-view (fieldsOf seg) kind) ≡ Clear) {e : Event} {s : Slot}
           (event-is : e ≡ segmentEvent the-view (block src) seg kind) (slot-is : s ≡ slotAfter the-view (heldUntil the-view t) (block src) (fieldsOf seg) iss (segmentEvent the-view (block src) seg kind))
-          {next : Listener} (moves : next ≡ segmentAfter l t found e s) where
+          {next : Listener} (moves : next ≡ segmentAfter l t found e s) {r : Remarks} (remarks-are : r ≡ remarksOf (l .settings .codings) seg) where
         abbrev done : Event
         done = segmentEvent the-view (block src) seg kind
 
@@ -199,33 +204,30 @@ module _ (l : Listener) (t : ℕ) where
         next-is = rw (event-is, slot-is) at moves
 
         pub segment-writes-none : writesSynAck e ≡ false
-            → (record { listener = next; event = e; written = 0 } ≡ step l this) × (outputOf l this ≡ [])
+            → (step l this ≡ outcome next e 0 r) × (outputOf l this ≡ [])
         segment-writes-none q =
             let none : segmentOutput the-view t src seg iss out-len done ≡ [] = rw (rw event-is at q) in
-            (rw (next-is, event-is) (sym (rw none at (step-done l this clear))), output-done l this clear ∙ none)
+            (rw (next-is, event-is, remarks-are) (rw none at (step-done l this clear)), output-done l this clear ∙ none)
 
         pub segment-writes : {fresh : Bool} {coding : Coding} {cookie : List ℕ} → fresh ≡ freshWith the-view (block src) seg done → (fresh ≡ true → coding ≡ codingFor the-view seg)
             → (fresh ≡ true → cookie ≡ cookieUnder (the-view .keys .present) (block src)) → writesSynAck e ≡ true
             → let bytes = synAckBytes (ownAddress (the-view .local)) src (synAckFrom (the-view .local) (the-view .settings .mss) s fresh coding) cookie out-len in
-            (record { listener = next; event = e; written = length bytes } ≡ step l this) × (outputOf l this ≡ bytes)
+            (outcome next e (length bytes) r ≡ step l this) × (outputOf l this ≡ bytes)
         segment-writes {fresh} {coding} {cookie} fresh-is coding-is cookie-is q =
             let some : segmentOutput the-view t src seg iss out-len done
             ≡ synAckTo the-view src (slotAfter the-view (heldUntil the-view t) (block src) (fieldsOf seg) iss done) (freshWith the-view (block src) seg done) (codingFor the-view seg) out-len = rw (rw event-is at q) in
             let same = any-cookie (ownAddress (the-view .local)) src the-view s fresh coding (codingFor the-view seg) cookie (cookieUnder (the-view .keys .present) (block src)) out-len coding-is cookie-is in
             let whole = some ∙ sym (rw (slot-is, fresh-is) at same) in
-            (rw (next-is, event-is, slot-is, fresh-is) (sym (rw whole at (step-done l this clear))), rw (slot-is, fresh-is) (output-done l this clear ∙ whole))
+            (rw (next-is, event-is, slot-is, fresh-is, remarks-are) (sym (rw whole at (step-done l this clear))), rw (slot-is, fresh-is) (output-done l this clear ∙ whole))
 
 -- An outcome and an output equal to `step` and `outputOf`: where nothing is written, and where a SYN-ACK is.
 
 pub unwritten : {r x s : Outcome} {bytes : List ℕ} (out : List ℕ) → r ≡ x → (s ≡ x) × (bytes ≡ []) → (r ≡ s) × (out ≡ overwrite bytes out)
 unwritten out e q = (e ∙ sym (q .0), ap (λ (z : List ℕ). overwrite z out) (sym (q .1)))
 
-pub left-alone : {r s : Outcome} {bytes : List ℕ} (out : List ℕ) → (r ≡ s) × (bytes ≡ []) → (r ≡ s) × (out ≡ overwrite bytes out)
-left-alone out q = (q .0, ap (λ (z : List ℕ). overwrite z out) (sym (q .1)))
-
-pub written-over : {l : Listener} {e : Event} {n : ℕ} {s : Outcome} {bytes these last : List ℕ} (out : List ℕ)
-    → (record { listener = l; event = e; written = length these } ≡ s) × (bytes ≡ these) → (n ≡ length these) × (last ≡ overwrite these out)
-    → (record { listener = l; event = e; written = n } ≡ s) × (last ≡ overwrite bytes out)
+pub written-over : {l : Listener} {e : Event} {n : ℕ} {r : Remarks} {s : Outcome} {bytes these last : List ℕ} (out : List ℕ)
+    → (outcome l e (length these) r ≡ s) × (bytes ≡ these) → (n ≡ length these) × (last ≡ overwrite these out)
+    → (outcome l e n r ≡ s) × (last ≡ overwrite bytes out)
 written-over out q w = (rw (w .0) (q .0), w .1 ∙ ap (λ (z : List ℕ). overwrite z out) (sym (q .1)))
 
 -- a SYN-ACK sent again, from the slot that was found
@@ -234,16 +236,16 @@ module _ (l : Listener) (t : ℕ) (a : List ℕ) (p out-len : ℕ) (out : List �
   here = view l t (record { address = a; port = p })
 
   pub resent : {s : Outcome} {bytes : List ℕ}
-      → (s ≡ record { listener = moved l t (l .slots); event = events.Done; written = length (synAckTo here a (here .slot) false New out-len) })
+      → (s ≡ outcome (moved l t (l .slots)) events.Done (length (synAckTo here a (here .slot) false New out-len)) noRemarks)
       × (bytes ≡ synAckTo here a (here .slot) false New out-len)
       → {x : Slot} → x ≡ here .slot → {w : ℕ} {last : List ℕ} (cookie : List ℕ)
       → (w ≡ length (synAckBytes (ownAddress (l .local)) a (synAckFrom (l .local) (l .settings .mss) x false New) cookie out-len))
       × (last ≡ overwrite (synAckBytes (ownAddress (l .local)) a (synAckFrom (l .local) (l .settings .mss) x false New) cookie out-len) out)
-      → (record { listener = moved l t (l .slots); event = events.Done; written = w } ≡ s) × (last ≡ overwrite bytes out)
-  resent q ex cookie e′ =
+      → {r : Remarks} → r ≡ noRemarks → (outcome (moved l t (l .slots)) events.Done w r ≡ s) × (last ≡ overwrite bytes out)
+  resent q ex cookie e′ er =
       let same = any-cookie (ownAddress (l .local)) a here (here .slot) false New New cookie (cookieUnder (here .keys .present) (block a)) out-len (λ _. refl) (λ x. absurd (false≢true x)) in
       let f = rw (ex, same) at e′ in
-      (rw (f .0) (sym (q .0)), f .1 ∙ ap (λ (z : List ℕ). overwrite z out) (sym (q .1)))
+      (rw (f .0, er) (sym (q .0)), f .1 ∙ ap (λ (z : List ℕ). overwrite z out) (sym (q .1)))
 
 -- what follows for its address, its time and its segment from a call's clear checks
 module _ (h : LocalEndpoint) (untimely : Bool) (a : List ℕ) where

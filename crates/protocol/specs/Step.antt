@@ -1,4 +1,4 @@
--- Document 01, "Listener", and document 02, Item 4: the start, and one call on a listener with its outcome: the listener next, what happened and what is written.
+-- Document 01, "Listener", and document 02, Items 4 and 7: the start, and one call on a listener with its outcome: the listener next, what happened, what is written and what is remarked.
 -- Assumes nothing.
 use Prim.Native.Nat.{ℕ, _+_, min}
 use mathlib.Core.List.{List, [], _∷_}
@@ -8,6 +8,7 @@ use Rattle.cipher.specs.KeyExpansion.{keyExpansion}
 use Rattle.segment.specs.Refusal.{Checks, refusal}
 use Rattle.segment.specs.Header.{fieldsOf, payloadOf, kindOf}
 use Rattle.segment.specs.Options.{optionsOf, codingOf}
+use Rattle.segment.specs.Remarks.{noRemarks, remarksOf}
 use Rattle.segment.specs.Write.{synAckBytes}
 use Rattle.segment.specs.declared.refusal.Refusal.the-variants.{Address, Range}
 use Rattle.segment.specs.declared.refusal.Check.{Check}
@@ -18,6 +19,7 @@ use Rattle.segment.specs.declared.header.Kind.the-variants.{Syn, Rst, Ack, Othe
 use Rattle.segment.specs.declared.options.Coding.{Coding}
 use Rattle.segment.specs.declared.options.Coding.the-variants.{New}
 use Rattle.segment.specs.declared.options.Codings.the-variants.{NewOnly}
+use Rattle.segment.specs.declared.options.Remarks.{Remarks}
 use Rattle.segment.specs.declared.write.SynAck.{SynAck}
 use Rattle.endpoint.specs.Address.{Peer, isSize, familyOf, block}
 use Rattle.endpoint.specs.declared.address.Family.the-variants.{V4}
@@ -186,6 +188,16 @@ doneOutput v (abandon t a p) = []
 doneOutput v (resend t a p out-len) = synAckTo v a (v .slot) false New out-len
 doneOutput v (close t a p) = []
 
+-- What is remarked on a segment's options, under the settings in force (02, Item 7)
+
+abbrev pub doneRemarks : View → Call → Remarks
+doneRemarks v (segment t src seg iss out-len) = remarksOf (v .settings .codings) seg
+doneRemarks v (settings t g) = noRemarks
+doneRemarks v (key t k) = noRemarks
+doneRemarks v (abandon t a p) = noRemarks
+doneRemarks v (resend t a p out-len) = noRemarks
+doneRemarks v (close t a p) = noRemarks
+
 -- The listener after a done call
 
 -- at a time, with other slots
@@ -233,8 +245,9 @@ after l (close t a p) = freed l t (record { address = a; port = p })
 -- A call: refused, it changes nothing
 
 abbrev pub outcomeOf : Listener → Call → Check → Outcome
-outcomeOf l c Clear = record { listener = after l c; event = doneEvent (viewOf l c) c; written = length (doneOutput (viewOf l c) c) }
-outcomeOf l c (Refused r) = record { listener = l; event = events.Refused r; written = 0 }
+outcomeOf l c Clear =
+    record { listener = after l c; event = doneEvent (viewOf l c) c; written = length (doneOutput (viewOf l c) c); remarks = doneRemarks (viewOf l c) c }
+outcomeOf l c (Refused r) = record { listener = l; event = events.Refused r; written = 0; remarks = noRemarks }
 
 unfoldable pub step : Listener → Call → Outcome
 step l c = outcomeOf l c (callCheck l c)

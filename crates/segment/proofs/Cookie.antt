@@ -10,6 +10,7 @@ use lib.Dec.{eqb, leb}
 use borrow.Author.Tests.{leb-true, eqb-true, le-leb, eq-eqb, ne-eqb}
 use Rattle.segment.specs.Bytes.{byteAt}
 use Rattle.segment.specs.Header.{has, SYN, RST, ACK, FIN, fieldsOf, kindOf, optionArea}
+use Rattle.segment.specs.declared.header.Kind.{Kind}
 use Rattle.segment.specs.declared.header.Kind.the-variants.{Syn, Rst, Ack, Other}
 use Rattle.segment.specs.declared.options.Coding.{Coding}
 use Rattle.segment.specs.declared.options.Coding.the-variants.{New, Older}
@@ -116,7 +117,7 @@ unfolding optionsOf
 no-syn g seg e = rw e
 
 -- of an opening those in its area do
-syn-flag : (flags : ℕ) → kindOf flags ≡ Syn → has flags SYN ≡ true
+pub syn-flag : (flags : ℕ) → kindOf flags ≡ Syn → has flags SYN ≡ true
 unfolding kindOf
 syn-flag flags e = go (has flags SYN) (has flags RST) (has flags ACK) e
   where
@@ -125,6 +126,16 @@ syn-flag flags e = go (has flags SYN) (has flags RST) (has flags ACK) e
     go false true a k = absurd (let z : _≡_ {A = ℕ} 0 1 = cc in omega arith)
     go false false true k = absurd (let z : _≡_ {A = ℕ} 0 1 = cc in omega arith)
     go false false false k = absurd (let z : _≡_ {A = ℕ} 0 1 = cc in omega arith)
+
+-- and a segment of another kind, if it has one, has no SYN
+pub later-flag : (flags : ℕ) → (kindOf flags ≡ Syn → ⊥) → (kindOf flags ≡ Other → ⊥) → has flags SYN ≡ false
+unfolding kindOf
+later-flag flags f h = go (has flags SYN) (has flags ACK || (has flags RST || has flags FIN)) (cond (has flags RST) Rst (cond (has flags ACK) Ack Other)) f h
+  where
+    go : (s other : Bool) (k : Kind) → (cond s (cond other Other Syn) k ≡ Syn → ⊥) → (cond s (cond other Other Syn) k ≡ Other → ⊥) → s ≡ false
+    go true true k p q = absurd (q refl)
+    go true false k p q = absurd (p refl)
+    go false other k p q = refl
 
 pub syn-options : (g : Codings) (seg : List ℕ) → kindOf (fieldsOf seg .flags) ≡ Syn → optionsOf g seg ≡ readOptions g (optionArea seg)
 unfolding optionsOf fieldsOf

@@ -9,7 +9,7 @@ use lib.Dec.{eqb}
 use lib.ListN.{length}
 use Rattle.lists.proofs.Bools.{or-false, chosen}
 use Rattle.segment.specs.Bytes.{byteAt}
-use Rattle.segment.specs.Header.{optionArea, has, SYN}
+use Rattle.segment.specs.Header.{optionArea, fieldsOf, kindOf, has, SYN}
 use Rattle.segment.specs.Options.{isCookieLength, cookieAt, isIn, prefixLength, optionIn, countsCoding, fastOpenOption, isCounted, firstFastOpen, nothing, withOption, readFrom, stands, readOptions, ifSyn, optionsOf}
 use Rattle.segment.specs.Remarks.{noRemarks, isFastOpen, isSkipped, firstAt, withRemark, brokenAt, remarksIn, remarksOf}
 use Rattle.segment.specs.Remarked.{Agrees, Remarked}
@@ -21,6 +21,8 @@ use Rattle.segment.specs.declared.options.FastOpenOption.the-variants.{A
 use Rattle.segment.specs.declared.options.Remarks.{Remarks}
 use Rattle.segment.proofs.ReadFrom.{both-readings}
 use Rattle.segment.proofs.Places.{place-stays}
+use Rattle.segment.proofs.Cookie.{syn-flag, later-flag}
+use Rattle.segment.specs.declared.header.Kind.the-variants.{Syn, Other}
 
 module _ (g : Codings) (area : List ℕ) (i len : ℕ) where
   -- what is no Fast Open option does not count
@@ -84,6 +86,15 @@ agrees-of g seg = go (has (byteAt seg 13) SYN)
     go : (syn : Bool) → Agrees (ifSyn syn (readOptions g (optionArea seg)) .fast) (cond syn (remarksIn g (optionArea seg)) noRemarks .used)
     go true = agrees-in g (optionArea seg)
     go false = refl
+
+-- on an opening the remarks are those on its area, and on a later segment there are none
+pub syn-remarks : (g : Codings) (seg : List ℕ) → kindOf (fieldsOf seg .flags) ≡ Syn → remarksOf g seg ≡ remarksIn g (optionArea seg)
+unfolding remarksOf fieldsOf
+syn-remarks g seg e = rw (syn-flag (byteAt seg 13) e)
+
+pub later-remarks : (g : Codings) (seg : List ℕ) → (kindOf (fieldsOf seg .flags) ≡ Syn → ⊥) → (kindOf (fieldsOf seg .flags) ≡ Other → ⊥) → remarksOf g seg ≡ noRemarks
+unfolding remarksOf fieldsOf
+later-remarks g seg f h = rw (later-flag (byteAt seg 13) f h)
 
 -- The samples, computed
 pub remarked : Remarked

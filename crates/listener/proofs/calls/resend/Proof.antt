@@ -122,13 +122,13 @@ returns-2 c =
 
 returns-3 : tie.Need-returns-3 Inv-loop μ-loop
 returns-3 c =
-    let wrote = c .before .before in
+    let wrote = c .before .before .before in
     let passed = wrote .before .before .before in
     let p = passed .before in
     let a = start (over p) .args in
     resent (a .l) (a .time) (a .addr .now) (a .port) (length (a .out .now)) (a .out .now)
     (resend-done (a .l) (a .time) (a .addr .now) (a .port) (length (a .out .now)) (clear (named (over p))) (waits p ∙ not-false _ (passed .if2 .left)))
-    (peer-is p) (replicate 8 0) (wrote .write-from .ensures)
+    (peer-is p) (replicate 8 0) (wrote .write-from .ensures) (c .no-remarks .ensures)
 
 pub resend-spec : {M : Type 1} → statement M
 resend-spec =
@@ -137,4 +137,4 @@ resend-spec =
     Inv-loop μ-loop (λ c κs. search needs) (λ c. search needs) (λ c κs. search needs) returns (λ c. search needs)
     (λ c κs. search needs) loop-holds (λ c. search needs) (λ c. search needs) (λ c κs. search needs) (λ c. search needs) (λ c. search needs)
     loop-again (λ c κs. search needs) mul-s-2 element-copy-out-s-2 (λ c κs. search needs) (λ c κs. search needs) (λ c κs. search needs) returns-2
-    (λ c κs. search needs) (λ c. search needs) returns-3)
+    (λ c κs. search needs) (λ c κs. search needs) (λ c. search needs) returns-3)

@@ -19,7 +19,7 @@ use Rattle.endpoint.proofs.Chain.{time-most}
 use Rattle.protocol.specs.Table.{scanOf}
 use Rattle.protocol.specs.View.{slotAt}
 use Rattle.protocol.specs.Refusals.{wireChecks}
-use Rattle.protocol.proofs.Step.{segment-stopped, wired-short, wired-timely, unwritten, left-alone, written-over}
+use Rattle.protocol.proofs.Step.{segment-stopped, wired-short, wired-timely, unwritten, written-over}
 use Rattle.decisions.specs.Parts.{isOpening, laterChecks}
 use Rattle.decisions.proofs.Receive.{was-dropped, was-read}
 use Rattle.table.proofs.Loops.{ScanLoop, scan-loop-start, scan-loop-on, scan-loop-end, SearchLoop, search-start, search-on, search-past, search-hit}
@@ -29,10 +29,10 @@ use Rattle.listener.proofs.calls.segment.Statement.{statement}
 use Rattle.listener.proofs.calls.segment.Tie as tie
 
 abbrev Inv-loop : tie.InvT-loop
-Inv-loop time src seg iss out local h next settings b scan₀ i₀ scan i = ScanLoop time b (h .source) (next .slots) i scan
+Inv-loop time src seg iss out local h next settings codings b scan₀ i₀ scan i = ScanLoop time b (h .source) (next .slots) i scan
 
 abbrev μ-loop : tie.MeasureT-loop
-μ-loop time src seg iss out local h next settings b scan₀ i₀ scan i = 64 - i
+μ-loop time src seg iss out local h next settings codings b scan₀ i₀ scan i = 64 - i
 
 abbrev Inv-loop2 : tie.InvT-loop2
 Inv-loop2 time src seg iss out h kind next settings b place₀ place = SearchLoop time b (h .source) (next .slots) place
@@ -119,9 +119,13 @@ module _ (c : tie.After-enum-told2 Inv-loop μ-loop Inv-loop2 μ-loop2) where
       free-in-table (a .l) (a .time) (a .src .now) (a .seg .now) (a .iss) (length (a .out .now)) (read (n k) .0) (read (n k) .1) (block-is k) (kind (n k) .kind-of .ensures) (is-one new) (scan-is new) (slot-is new)
       (new .check-opening .ensures) (c .enum-told2 .given .1)
 
--- Whether an option counts is known
-abbrev offered : tie.After-is-counted Inv-loop μ-loop Inv-loop2 μ-loop2 → tie.After-enum-told2 Inv-loop μ-loop Inv-loop2 μ-loop2
-offered c = c .before .before .before .before
+-- Its options are read, and whether one counts is known
+module _ (c : tie.After-is-counted Inv-loop μ-loop Inv-loop2 μ-loop2) where
+  abbrev read-from : tie.After-read-options2 Inv-loop μ-loop Inv-loop2 μ-loop2
+  read-from = c .before .before .before .before .before
+
+  abbrev offered : tie.After-enum-told2 Inv-loop μ-loop Inv-loop2 μ-loop2
+  offered = read-from .before .before
 
 -- A later segment: the search is over, past the table or at the name
 module _ (c : tie.Left-loop2 Inv-loop μ-loop Inv-loop2 μ-loop2) where
@@ -207,12 +211,13 @@ returns-3 c =
 returns-4 : tie.Need-returns-4 Inv-loop μ-loop Inv-loop2 μ-loop2
 returns-4 c =
     let wrote = c .before .before in
-    let told = wrote .before .before in
+    let area = wrote .before .before .before .before in
+    let told = area .before in
     let o = told .before .before in
     let k = known o in
     let a = start (n k) .args in
     written-over (a .out .now) (repeated (a .l) (a .time) (a .src .now) (a .seg .now) (a .iss) (length (a .out .now)) (read (n k) .0) (read (n k) .1) (block-is k) (kind (n k) .kind-of .ensures) (is-one o)
-    (scan-is o) (slot-is o) (o .check-opening .ensures) (told .enum-told .given .1) (replicate 8 0)) (wrote .write-from .ensures)
+    (scan-is o) (slot-is o) (o .check-opening .ensures) (told .enum-told .given .1) (area .area-within .ensures, wrote .before .before .before .read-options .ensures) (replicate 8 0)) (wrote .write-from .ensures)
 
 mul-new : tie.Need-mul-new Inv-loop μ-loop Inv-loop2 μ-loop2
 mul-new c = omega (arith, vacant (offered (c .before .before .before .before .before .before)))
@@ -230,7 +235,7 @@ returns-5 c =
     let k = known o in
     let a = start (n k) .args in
     written-over (a .out .now) (opened-plain (a .l) (a .time) (a .src .now) (a .seg .now) (a .iss) (length (a .out .now)) (read (n k) .0) (read (n k) .1) (block-is k) (kind (n k) .kind-of .ensures) (is-one o)
-    (scan-is o) (slot-is o) (o .check-opening .ensures) (told .enum-told2 .given .1) (counted .before .before .cookies-enabled .ensures) (counted .before .before .before .area-within .ensures) (counted .before .counted-option .ensures)
+    (scan-is o) (slot-is o) (o .check-opening .ensures) (told .enum-told2 .given .1) (counted .before .before .cookies-enabled .ensures) (read-from counted .before .area-within2 .ensures, read-from counted .read-options2 .ensures) (counted .before .counted-option .ensures)
     (sym (counted .is-counted .ensures) ∙ not-true _ (made .before .if3 .taken)) (made .open-plain .ensures) (replicate 8 0)) (wrote .write-from2 .ensures)
 
 mul-new-2 : tie.Need-mul-new-2 Inv-loop μ-loop Inv-loop2 μ-loop2
@@ -250,7 +255,7 @@ returns-6 c =
     let k = known o in
     let a = start (n k) .args in
     written-over (a .out .now) (opened-by-option (a .l) (a .time) (a .src .now) (a .seg .now) (a .iss) (length (a .out .now)) (read (n k) .0) (read (n k) .1) (block-is k) (kind (n k) .kind-of .ensures) (is-one o)
-    (scan-is o) (slot-is o) (o .check-opening .ensures) (told .enum-told2 .given .1) (counted .before .before .cookies-enabled .ensures) (counted .before .before .before .area-within .ensures) (counted .before .counted-option .ensures)
+    (scan-is o) (slot-is o) (o .check-opening .ensures) (told .enum-told2 .given .1) (counted .before .before .cookies-enabled .ensures) (read-from counted .before .area-within2 .ensures, read-from counted .read-options2 .ensures) (counted .before .counted-option .ensures)
     (sym (counted .is-counted .ensures) ∙ not-false _ (made .before .before .before .if3 .left)) (made .before .payload-after .ensures) (coded .coding-of .ensures) (made .open-by-option .result) (made .open-by-option .ensures)) (wrote .write-from3 .ensures)
 
 loop2-holds : tie.Need-loop2-holds Inv-loop μ-loop Inv-loop2 μ-loop2
@@ -290,12 +295,12 @@ element-set-from-changed c = omega (arith, held (c .before .before))
 
 returns-8 : tie.Need-returns-8 Inv-loop μ-loop Inv-loop2 μ-loop2
 returns-8 c =
-    let t = c .before .before .before in
+    let t = c .before .before .before .before in
     let o = over (checked t) in
     let k = other o in
     let a = start (n k) .args in
-    left-alone (a .out .now) (later-done (a .l) (a .time) (a .src .now) (a .seg .now) (a .iss) (length (a .out .now)) (read (n k) .0) (read (n k) .1) (block-is k) (kind (n k) .kind-of .ensures) (is-later o) (place-is o) (peer-is (checked t))
-    (clear t) (c .before .later-slot .ensures) (c .later-event .ensures))
+    unwritten (a .out .now) (c .quiet .ensures) (later-done (a .l) (a .time) (a .src .now) (a .seg .now) (a .iss) (length (a .out .now)) (read (n k) .0) (read (n k) .1) (block-is k) (kind (n k) .kind-of .ensures) (is-later o) (place-is o) (peer-is (checked t))
+    (clear t) (c .before .before .later-slot .ensures) (c .before .later-event .ensures))
 
 pub segment-spec : {M : Type 1} → statement M
 segment-spec =
@@ -307,11 +312,12 @@ segment-spec =
     (λ c. search needs) (λ c κs. search needs) (λ c. search needs) (λ c. search needs) loop-again
     (λ c κs. search needs) mul-s-2 element-copy-out-s-2 (λ c κs. search needs) (λ c κs. search needs)
     (λ c. search needs) (λ c κs. search needs) returns-3 (λ c. search needs) (λ c κs. search needs)
-    (λ c. search needs) returns-4 (λ c. search needs) (λ c κs. search needs) (λ c κs. search needs)
-    (λ c κs. search needs) (λ c κs. search needs) (λ c κs. search needs) (λ c κs. search needs) mul-new
-    element-set-from-new (λ c. search needs) returns-5 (λ c κs. search needs) (λ c κs. search needs)
-    (λ c κs. search needs) (λ c κs. search needs) mul-new-2 element-set-from-new-2 (λ c. search needs) returns-6 loop2-holds
-    (λ c. search needs) (λ c. search needs) (λ c κs. search needs) (λ c. search needs) (λ c. search needs) loop2-again
-    (λ c κs. search needs) mul-s-4 element-copy-out-s-4 (λ c κs. search needs) (λ c κs. search needs)
-    (λ c. search needs) (λ c κs. search needs) returns-7 (λ c. search needs) (λ c. search needs) add-later-slot
-    (λ c κs. search needs) mul-changed element-set-from-changed (λ c κs. search needs) returns-8)
+    (λ c κs. search needs) (λ c κs. search needs) (λ c. search needs) returns-4 (λ c. search needs)
+    (λ c κs. search needs) (λ c κs. search needs) (λ c κs. search needs) (λ c κs. search needs) (λ c κs. search needs)
+    (λ c κs. search needs) (λ c κs. search needs) mul-new element-set-from-new (λ c. search needs) returns-5
+    (λ c κs. search needs) (λ c κs. search needs) (λ c κs. search needs) (λ c κs. search needs) mul-new-2
+    element-set-from-new-2 (λ c. search needs) returns-6 loop2-holds (λ c. search needs) (λ c. search needs)
+    (λ c κs. search needs) (λ c. search needs) (λ c. search needs) loop2-again (λ c κs. search needs) mul-s-4
+    element-copy-out-s-4 (λ c κs. search needs) (λ c κs. search needs) (λ c. search needs) (λ c κs. search needs)
+    returns-7 (λ c. search needs) (λ c. search needs) add-later-slot (λ c κs. search needs) mul-changed
+    element-set-from-changed (λ c κs. search needs) (λ c κs. search needs) returns-8)
