@@ -9,10 +9,12 @@ use borrow.Author.Tests.{not-false}
 use Rattle.segment.specs.Refusal.{Checks, refusal}
 use Rattle.segment.specs.Header.{fieldsOf}
 use Rattle.lists.specs.Bytes.{overwrite}
+use Rattle.segment.specs.Remarks.{noRemarks, readingOf}
 use Rattle.segment.specs.Write.{openingBytes}
 use Rattle.segment.specs.declared.options.Codings.{Codings}
 use Rattle.segment.specs.declared.options.Mss.{Mss}
-use Rattle.segment.specs.declared.options.Options.{Options}
+use Rattle.segment.specs.declared.options.Remarks.{Remarks}
+use Rattle.segment.specs.declared.options.Reading.{Reading}
 use Rattle.segment.specs.declared.refusal.Refusal.{Refusal}
 use Rattle.segment.specs.declared.refusal.Refusal.the-variants.{Address}
 use Rattle.segment.specs.declared.refusal.Check.{Check}
@@ -27,9 +29,10 @@ use Rattle.client.specs.Cache.{cookieLength, entryFor, withCache}
 use Rattle.client.specs.Bans.{isBanned, addBan, withBans}
 use Rattle.client.specs.Call.{Call, connect, answer, failed}
 use Rattle.client.specs.Refusals.{countIn, openChecks, answerChecks, callCheck, replyFrom}
-use Rattle.client.specs.Step.{blank, neverStarted, startOf, openingFor, sentWith, cookieIn, mssIn, cacheAfter, optionsIn, isUnacknowledged, isNegative, hasCookie, bansAfter, moved, after, doneEvent, doneOutput, outcomeOf, step, outputIf, outputOf}
+use Rattle.client.specs.Step.{blank, neverStarted, startOf, openingFor, sentWith, cookieIn, mssIn, cacheAfter, isUnacknowledged, isNegative, hasCookie, bansAfter, moved, after, doneEvent, doneOutput, doneRemarks, outcomeOf, step, outputIf, outputOf}
 use Rattle.client.specs.declared.outcome.ActiveOpen.{ActiveOpen}
 use Rattle.client.specs.declared.outcome.Attempt.{Attempt}
+use Rattle.client.specs.declared.outcome.Event.{Event}
 use Rattle.client.specs.declared.outcome.Event.the-variants as events
 use Rattle.client.specs.declared.outcome.Outcome.{Outcome}
 use Rattle.client.specs.declared.cache.Entry.{Entry}
@@ -39,8 +42,11 @@ use Rattle.client.specs.declared.state.Memory.{Memory}
 use Rattle.client.proofs.Answer.{mss-most}
 use Rattle.client.proofs.After.{cookie-told}
 
+abbrev pub outcome : Memory → Event → ℕ → Remarks → Outcome
+outcome m e n r = record { memory = m; event = e; written = n; remarks = r }
+
 abbrev pub refusedWith : Memory → Refusal → Outcome
-refusedWith m r = record { memory = m; event = events.Refused r; written = 0 }
+refusedWith m r = outcome m (events.Refused r) 0 noRemarks
 
 -- The start
 
@@ -60,7 +66,7 @@ module _ (m : Memory) (c : Call) where
   unfolding step
   step-refused e = ap (outcomeOf m c) e
 
-  pub step-done : callCheck m c ≡ Clear → step m c ≡ record { memory = after m c; event = doneEvent m c; written = length (doneOutput m c) }
+  pub step-done : callCheck m c ≡ Clear → step m c ≡ outcome (after m c) (doneEvent m c) (length (doneOutput m c)) (doneRemarks c)
   unfolding step
   step-done e = ap (outcomeOf m c) e
 
@@ -105,13 +111,13 @@ module _ (m : Memory) (t : ℕ) (own server : List ℕ) (o : ActiveOpen) (offere
           → len ≡ cookieLength e
           → w ≡ length (openingBytes own server (openingFor bn o) (take len (e .cookie)) (take n offered) (length out))
           → out′ ≡ overwrite (openingBytes own server (openingFor bn o) (take len (e .cookie)) (take n offered) (length out)) out
-          → next ≡ moved m t (m .cache) (m .bans)
-          → (record { memory = next; event = events.Opened n; written = w } ≡ step m opening) × (out′ ≡ overwrite (outputOf m opening) out)
+          → next ≡ moved m t (m .cache) (m .bans) → {x : Outcome} → x ≡ outcome next (events.Opened n) w noRemarks
+          → (x ≡ step m opening) × (out′ ≡ overwrite (outputOf m opening) out)
       unfolding after
-      open-done eb eg ee en el ew eo ex =
+      open-done eb eg ee en el ew eo em ex =
           let done = step-done m opening (open-checked ∙ clear) in
           let write = output-done m opening (open-checked ∙ clear) in
-          (rw (ew, ex, el, en, ee, eg, eb) (sym done), rw (eo, el, en, ee, eg, eb, write) refl)
+          (ex ∙ rw (ew, em, el, en, ee, eg, eb) (sym done), rw (eo, el, en, ee, eg, eb, write) refl)
 
 -- Answer
 
@@ -156,19 +162,19 @@ module _ (m : Memory) (t : ℕ) (own server : List ℕ) (a : Attempt) (seg : Lis
     answer-time = time-most (m .clock) t (every-check theChecks clear .1 .0)
 
     -- a negative answer, by the count and the option that counts
-    pub answer-negative : {o : Options} {negative : Bool} → o ≡ optionsIn g seg → negative ≡ isUnacknowledged (a .sent) n && not (hasCookie (o .fast))
+    pub answer-negative : {r : Reading} {negative : Bool} → r ≡ readingOf g seg → negative ≡ isUnacknowledged (a .sent) n && not (hasCookie (r .options .fast))
         → negative ≡ isNegative g a seg
-    answer-negative eo en = rw (en, eo, cookie-told g seg, was-counted (refusal theChecks) a seg theReply .1)
+    answer-negative er en = rw (en, er, cookie-told g seg, was-counted (refusal theChecks) a seg theReply .1)
 
-    module _ {b cookie : List ℕ} {mss : Mss} {negative : Bool} {at known next : Memory} where
-      pub answer-done : at ≡ moved m t (m .cache) (m .bans) → b ≡ block server → cookie ≡ cookieIn g seg → mss ≡ mssIn g seg
+    module _ {b cookie : List ℕ} {mss : Mss} {r : Reading} {negative : Bool} {at known next : Memory} where
+      pub answer-done : at ≡ moved m t (m .cache) (m .bans) → b ≡ block server → cookie ≡ cookieIn g seg → mss ≡ mssIn g seg → r ≡ readingOf g seg
           → known ≡ withCache at (cacheAfter b cookie mss (at .cache))
           → negative ≡ isNegative g a seg → next ≡ withBans known (bansAfter t b (a .dest) negative (known .bans))
-          → record { memory = next; event = events.Answered n; written = 0 } ≡ step m answering
+          → outcome next (events.Answered n) 0 (r .remarks) ≡ step m answering
       unfolding after
-      answer-done et eb ec es ek ei en =
+      answer-done et eb ec es er ek ei en =
           let done = step-done m answering (answer-checked ∙ clear) in
-          rw (en, ek, et, ec, es, eb, ei, was-counted (refusal theChecks) a seg theReply .1) (sym done)
+          rw (en, ek, et, ec, es, er, eb, ei, was-counted (refusal theChecks) a seg theReply .1) (sym done)
 
 -- Failure
 
@@ -195,6 +201,6 @@ module _ (m : Memory) (t : ℕ) (server : List ℕ) (port : ℕ) where
 
     module _ {b : List ℕ} {banned next : Memory} where
       pub failed-done : b ≡ block server → banned ≡ withBans m (addBan t b port (m .bans)) → next ≡ moved banned t (banned .cache) (banned .bans)
-          → record { memory = next; event = events.Reported; written = 0 } ≡ step m failing
+          → {x : Outcome} → x ≡ outcome next events.Reported 0 noRemarks → x ≡ step m failing
       unfolding after
-      failed-done eb es en = rw (en, es, eb) (sym (step-done m failing (failed-checked ∙ clear)))
+      failed-done eb es en ex = ex ∙ rw (en, es, eb) (sym (step-done m failing (failed-checked ∙ clear)))

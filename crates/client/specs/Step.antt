@@ -1,4 +1,4 @@
--- Document 01, "Client", and document 02, Items 4 and 9: the start, and one call on a memory with its outcome: the memory next, what happened and what is written.
+-- Document 01, "Client", and document 02, Items 4, 7 and 9: the start, and one call on a memory with its outcome: the memory next, what happened, what is written and what is remarked.
 -- Assumes nothing.
 use Prim.Native.Nat.{ℕ, min}
 use mathlib.Core.List.{List, [], _∷_}
@@ -8,6 +8,7 @@ use lib.ListN.{length, take, replicate}
 use Rattle.segment.specs.Refusal.{Checks, refusal}
 use Rattle.segment.specs.Header.{fieldsOf, optionArea}
 use Rattle.segment.specs.Options.{optionsOf, cookieBytes}
+use Rattle.segment.specs.Remarks.{noRemarks, remarksOf}
 use Rattle.segment.specs.Write.{openingBytes}
 use Rattle.segment.specs.declared.refusal.Refusal.the-variants.{Address}
 use Rattle.segment.specs.declared.refusal.Check.{Check}
@@ -18,6 +19,7 @@ use Rattle.segment.specs.declared.options.Codings.{Codings}
 use Rattle.segment.specs.declared.options.FastOpenOption.{FastOpenOption}
 use Rattle.segment.specs.declared.options.FastOpenOption.the-variants.{Absent, Request, Cookie}
 use Rattle.segment.specs.declared.options.Options.{Options}
+use Rattle.segment.specs.declared.options.Remarks.{Remarks}
 use Rattle.segment.specs.declared.write.Opening.{Opening}
 use Rattle.endpoint.specs.Address.{isSize, familyOf, block}
 use Rattle.endpoint.specs.declared.address.Family.{Family}
@@ -142,11 +144,17 @@ doneOutput m (connect t own server o offered out-len) = openingWith (m .family) 
 doneOutput m (answer t own server a seg g) = []
 doneOutput m (failed t server port) = []
 
+-- what is remarked on an answer's options, under the codings given with it (02, Item 7)
+abbrev pub doneRemarks : Call → Remarks
+doneRemarks (connect t own server o offered out-len) = noRemarks
+doneRemarks (answer t own server a seg g) = remarksOf g seg
+doneRemarks (failed t server port) = noRemarks
+
 -- A call: refused, it changes nothing
 
 abbrev pub outcomeOf : Memory → Call → Check → Outcome
-outcomeOf m c Clear = record { memory = after m c; event = doneEvent m c; written = length (doneOutput m c) }
-outcomeOf m c (Refused r) = record { memory = m; event = events.Refused r; written = 0 }
+outcomeOf m c Clear = record { memory = after m c; event = doneEvent m c; written = length (doneOutput m c); remarks = doneRemarks c }
+outcomeOf m c (Refused r) = record { memory = m; event = events.Refused r; written = 0; remarks = noRemarks }
 
 unfoldable pub step : Memory → Call → Outcome
 step m c = outcomeOf m c (callCheck m c)

@@ -48,16 +48,23 @@ ghost use Rattle.client.specs.Bans.{withBans};
 ghost use Rattle.client.specs.Call.{Call};
 ghost use Rattle.client.specs.Step.{blank, neverStarted, startOf, sentWith, isGiven, cacheAfter, isUnacknowledged, hasCookie, bansAfter, step, outputOf, moved};
 
+// What a call comes to that has no options to remark on.
+fn unremarked(m: Memory, event: Event, written: usize) -> Outcome
+    ensures { λ r. ⌜ r ≡ record { memory = m; event = event; written = written; remarks = noRemarks } ⌝ }
+{
+    Outcome {
+        memory: m,
+        event,
+        written,
+        remarks: no_remarks(),
+    }
+}
+
 // A refused call changes nothing.
 fn refused(m: Memory, why: Refusal) -> Outcome
     ensures { λ r. ⌜ r ≡ record { memory = m; event = Event.Refused why; written = 0; remarks = noRemarks } ⌝ }
 {
-    Outcome {
-        memory: m,
-        event: Event::Refused(why),
-        written: 0,
-        remarks: no_remarks(),
-    }
+    unremarked(m, Event::Refused(why), 0)
 }
 
 // A memory with nothing stored and no ban, at time 0.
@@ -161,12 +168,7 @@ pub fn connect(
             let len = cookie_length(e);
             let cookie = e.cookie;
             let written = write_opening(out, own, server, opening, &cookie[..len], &offered[..n]);
-            Outcome {
-                memory: at_time(m, time),
-                event: Event::Opened(n as u32),
-                written,
-                remarks: no_remarks(),
-            }
+            unremarked(at_time(m, time), Event::Opened(n as u32), written)
         }
     }
 }
@@ -267,12 +269,7 @@ pub fn failed(m: Memory, time: u64, server: &[u8], port: u16) -> Outcome
         Check::Clear => {
             let b = block_of(server);
             let next = set_ban(m, time, b, port);
-            Outcome {
-                memory: at_time(next, time),
-                event: Event::Reported,
-                written: 0,
-                remarks: no_remarks(),
-            }
+            unremarked(at_time(next, time), Event::Reported, 0)
         }
     }
 }

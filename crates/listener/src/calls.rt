@@ -70,14 +70,14 @@ ghost use Rattle.protocol.specs.Call.{Call};
 ghost use Rattle.protocol.specs.Refusals.{releaseOf};
 ghost use Rattle.protocol.specs.Step.{blank, freshListener, neverStarted, startOf, step, outputOf, pendingNumber};
 
-// What a call comes to that writes nothing and remarks nothing.
-fn quiet(l: Listener, event: Event) -> Outcome
-    ensures { λ r. ⌜ r ≡ record { listener = l; event = event; written = 0; remarks = noRemarks } ⌝ }
+// What a call comes to that has no options to remark on.
+fn unremarked(l: Listener, event: Event, written: usize) -> Outcome
+    ensures { λ r. ⌜ r ≡ record { listener = l; event = event; written = written; remarks = noRemarks } ⌝ }
 {
     Outcome {
         listener: l,
         event,
-        written: 0,
+        written,
         remarks: no_remarks(),
     }
 }
@@ -86,14 +86,14 @@ fn quiet(l: Listener, event: Event) -> Outcome
 fn refused(l: Listener, why: Refusal) -> Outcome
     ensures { λ r. ⌜ r ≡ record { listener = l; event = Event.Refused why; written = 0; remarks = noRemarks } ⌝ }
 {
-    quiet(l, Event::Refused(why))
+    unremarked(l, Event::Refused(why), 0)
 }
 
-// Done, with no verdict.
+// Done, with nothing written and no verdict.
 fn done(l: Listener) -> Outcome
     ensures { λ r. ⌜ r ≡ record { listener = l; event = Event.Done; written = 0; remarks = noRemarks } ⌝ }
 {
-    quiet(l, Event::Done)
+    unremarked(l, Event::Done, 0)
 }
 
 // A listener with no connection, at time 0.
@@ -326,7 +326,7 @@ pub fn segment(l: Listener, time: u64, src: &[u8], seg: &[u8], iss: u32, out: &m
                     let changed = later_slot(slot, time + (settings.hold as u64), kind);
                     next.slots[place] = changed;
                     next.clock = time;
-                    return quiet(next, later_event(kind));
+                    return unremarked(next, later_event(kind), 0);
                 }
             }
         }
@@ -468,12 +468,7 @@ pub fn resend(l: Listener, time: u64, addr: &[u8], port: u16, out: &mut [u8]) ->
             let cookie = [0u8; 8];
             let written = write_from(out, local, mss, addr, slot, false, Coding::New, cookie);
             next.clock = time;
-            return Outcome {
-                listener: next,
-                event: Event::Done,
-                written,
-                remarks: no_remarks(),
-            };
+            return unremarked(next, Event::Done, written);
         }
     }
 }

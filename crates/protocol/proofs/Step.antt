@@ -241,11 +241,11 @@ module _ (l : Listener) (t : ℕ) (a : List ℕ) (p out-len : ℕ) (out : List �
       → {x : Slot} → x ≡ here .slot → {w : ℕ} {last : List ℕ} (cookie : List ℕ)
       → (w ≡ length (synAckBytes (ownAddress (l .local)) a (synAckFrom (l .local) (l .settings .mss) x false New) cookie out-len))
       × (last ≡ overwrite (synAckBytes (ownAddress (l .local)) a (synAckFrom (l .local) (l .settings .mss) x false New) cookie out-len) out)
-      → {r : Remarks} → r ≡ noRemarks → (outcome (moved l t (l .slots)) events.Done w r ≡ s) × (last ≡ overwrite bytes out)
-  resent q ex cookie e′ er =
+      → {o : Outcome} → o ≡ outcome (moved l t (l .slots)) events.Done w noRemarks → (o ≡ s) × (last ≡ overwrite bytes out)
+  resent q ex cookie e′ eo =
       let same = any-cookie (ownAddress (l .local)) a here (here .slot) false New New cookie (cookieUnder (here .keys .present) (block a)) out-len (λ _. refl) (λ x. absurd (false≢true x)) in
       let f = rw (ex, same) at e′ in
-      (rw (f .0, er) (sym (q .0)), f .1 ∙ ap (λ (z : List ℕ). overwrite z out) (sym (q .1)))
+      (eo ∙ rw (f .0) (sym (q .0)), f .1 ∙ ap (λ (z : List ℕ). overwrite z out) (sym (q .1)))
 
 -- what follows for its address, its time and its segment from a call's clear checks
 module _ (h : LocalEndpoint) (untimely : Bool) (a : List ℕ) where

@@ -29,7 +29,7 @@ abbrev blocked : tie.After-segment-options → tie.After-block-of
 blocked c = c .before
 
 abbrev parsed : tie.After-option-area → tie.After-segment-options
-parsed c = c .before
+parsed c = c .before .before .before
 
 abbrev area : tie.After-cookie → tie.After-option-area
 area c = c .before
@@ -71,7 +71,7 @@ module _ (c : tie.After-cookie) where
   named-at = blocked (parsed (area c))
 
   brings : (c .cookie .result .now ≡ cookieIn (start named-at .args .codings) (start named-at .args .seg .now))
-      × (parsed (area c) .segment-options .result .mss ≡ mssIn (start named-at .args .codings) (start named-at .args .seg .now))
+      × (parsed (area c) .segment-options .result .options .mss ≡ mssIn (start named-at .args .codings) (start named-at .args .seg .now))
   brings = brought-is (start named-at .args .codings) (start named-at .args .seg .now) (parsed (area c) .segment-options .ensures) (area c .option-area .ensures) (c .cookie .ensures)
 
 learn-requires : tie.Need-learn-requires
@@ -96,10 +96,10 @@ returns-2 c =
     let o = brought l in
     let b = named-at o in
     let a = start b .args in
-    let options = parsed (area o) .segment-options .ensures in
-    let negative = answer-negative (a .m) (a .time) (a .own .now) (a .server .now) (a .a) (a .seg .now) (a .codings) (acknowledged (counted b)) options (j .is-negative .ensures) in
+    let reading = parsed (area o) .segment-options .ensures in
+    let negative = answer-negative (a .m) (a .time) (a .own .now) (a .server .now) (a .a) (a .seg .now) (a .codings) (acknowledged (counted b)) reading (j .is-negative .ensures) in
     answer-done (a .m) (a .time) (a .own .now) (a .server .now) (a .a) (a .seg .now) (a .codings) (acknowledged (counted b))
-    (timed (checked (counted b)) .at-time .ensures) (named b) (brings o .0) (brings o .1) (l .learn .ensures) negative (c .ban-if .ensures)
+    (timed (checked (counted b)) .at-time .ensures) (named b) (brings o .0) (brings o .1) reading (l .learn .ensures) negative (c .ban-if .ensures)
 
 pub answer-spec : {M : Type 1} → statement M
 answer-spec =

@@ -113,14 +113,14 @@ returns c =
 
 returns-2 : tie.Need-returns-2
 returns-2 c =
-    let w = written c in
+    let w = written (c .before) in
     let l = sized (lent w) in
     let p = sent l in
     let b = named-at p in
     let a = start b .args in
     open-done (a .m) (a .time) (a .own .now) (a .server .now) (a .o) (a .offered .now) (a .out .now) (clear (told b))
     (named b) (banned (found p) .is-banned .ensures) (found p .entry-for .ensures) (p .sent-with .ensures .0)
-    (l .cookie-length .ensures) (w .write-opening .ensures .0) (w .write-opening .ensures .1) (c .at-time .ensures)
+    (l .cookie-length .ensures) (w .write-opening .ensures .0) (w .write-opening .ensures .1) (c .before .at-time .ensures) (c .unremarked .ensures)
 
 pub connect-spec : {M : Type 1} → statement M
 connect-spec =
@@ -129,4 +129,4 @@ connect-spec =
     (λ c κs. search needs) (λ c. search needs) (λ c κs. search needs) (λ c. search needs) (λ c κs. search needs)
     (λ c κs. search needs) (λ c κs. search needs) (λ c κs. search needs) cast-t22 (λ c κs. search needs)
     array-share-prefix-cookie slice-aggregate-write-opening slice-aggregate-write-opening-2 (λ c κs. search needs)
-    (λ c κs. search needs) cast-t31 returns (λ c. search needs) returns-2)
+    (λ c κs. search needs) cast-t31 (λ c κs. search needs) returns (λ c. search needs) returns-2)

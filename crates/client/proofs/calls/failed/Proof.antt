@@ -50,16 +50,16 @@ returns c =
 
 returns-2 : tie.Need-returns-2
 returns-2 c =
-    let s = banned c in
+    let s = banned (c .before) in
     let b = blocked s in
     let a = entry (checked (told b)) .args in
     let k = clear (told b) in
     failed-done (a .m) (a .time) (a .server .now) (a .port) k
-    (failed-kept (a .m) (a .time) (a .server .now) (a .port) k (b .block-of .ensures)) (s .set-ban .ensures) (c .at-time .ensures)
+    (failed-kept (a .m) (a .time) (a .server .now) (a .port) k (b .block-of .ensures)) (s .set-ban .ensures) (c .before .at-time .ensures) (c .unremarked .ensures)
 
 pub failed-spec : {M : Type 1} → statement M
 failed-spec =
     tie.close
     (tie.spec
     (λ c κs. search needs) (λ c. search needs) (λ c κs. search needs) (λ c. search needs) (λ c κs. search needs)
-    set-ban-requires (λ c κs. search needs) returns returns-2)
+    set-ban-requires (λ c κs. search needs) (λ c κs. search needs) returns returns-2)

@@ -128,7 +128,7 @@ returns-3 c =
     let a = start (over p) .args in
     resent (a .l) (a .time) (a .addr .now) (a .port) (length (a .out .now)) (a .out .now)
     (resend-done (a .l) (a .time) (a .addr .now) (a .port) (length (a .out .now)) (clear (named (over p))) (waits p ∙ not-false _ (passed .if2 .left)))
-    (peer-is p) (replicate 8 0) (wrote .write-from .ensures) (c .no-remarks .ensures)
+    (peer-is p) (replicate 8 0) (wrote .write-from .ensures) (c .unremarked .ensures)
 
 pub resend-spec : {M : Type 1} → statement M
 resend-spec =

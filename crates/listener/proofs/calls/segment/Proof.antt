@@ -299,7 +299,7 @@ returns-8 c =
     let o = over (checked t) in
     let k = other o in
     let a = start (n k) .args in
-    unwritten (a .out .now) (c .quiet .ensures) (later-done (a .l) (a .time) (a .src .now) (a .seg .now) (a .iss) (length (a .out .now)) (read (n k) .0) (read (n k) .1) (block-is k) (kind (n k) .kind-of .ensures) (is-later o) (place-is o) (peer-is (checked t))
+    unwritten (a .out .now) (c .unremarked .ensures) (later-done (a .l) (a .time) (a .src .now) (a .seg .now) (a .iss) (length (a .out .now)) (read (n k) .0) (read (n k) .1) (block-is k) (kind (n k) .kind-of .ensures) (is-later o) (place-is o) (peer-is (checked t))
     (clear t) (c .before .before .later-slot .ensures) (c .before .later-event .ensures))
 
 pub segment-spec : {M : Type 1} → statement M
