@@ -45,7 +45,7 @@ module _ (m : Memory) (o : Order) (a b d : List ℕ) where
   -- an order's outcome, put as text
   pub played : (lent text : List ℕ) {x : Outcome} {lent′ text′ : List ℕ} {len n : ℕ}
       → x ≡ outcomeOf m (requestWith o a b d (length lent)) → lent′ ≡ lentAfter m (requestWith o a b d (length lent)) lent → n ≡ numberOfEvent (x .event)
-      → Put text 0 (outcomeLine (x .event) lent′ (x .written)) len text′
+      → Put text 0 (outcomeLine x lent′) len text′
       → (record { memory = x .memory; reply = Number n; len = len } ≡ playedIn (length text) (playingWith m (requestWith o a b d (length lent)) lent))
       × (text′ ≡ laid 0 (playingWith m (requestWith o a b d (length lent)) lent .text) text)
   played lent text e f h p = rw (← e, ← f, ← h) (rw (p .0), p .1)

@@ -2,7 +2,7 @@
 -- Assumes nothing.
 use Prim.Native.Nat.{ℕ}
 use mathlib.Core.Bool.{Bool}
-use mathlib.Core.List.{List, [], _∷_}
+use mathlib.Core.List.{List, _∷_}
 use lib.ListN.{length, take}
 use Rattle.segment.specs.declared.refusal.Check.{Check}
 use Rattle.segment.specs.declared.refusal.Check.the-variants.{Clear}
@@ -13,22 +13,23 @@ use Rattle.client.specs.Call.{numberOfEvent, countOf}
 use Rattle.text.specs.Number.{decimal}
 use Rattle.text.specs.ByteString.{hexWord}
 use Rattle.text.specs.Output.{isKept}
-use Rattle.text.specs.Put.{fields, restWord}
+use Rattle.text.specs.Put.{fields, endWords}
+use Rattle.client.specs.declared.outcome.Outcome.{Outcome}
+use Rattle.segment.specs.declared.options.Remarks.{Remarks}
 
--- NUMBER COUNT WRITTEN OUTPUT REST
-unfoldable pub lineOf : Event → List ℕ → Bool → List ℕ
-lineOf event written kept =
+-- NUMBER COUNT WRITTEN OUTPUT REST SKIPPED USED BROKEN
+unfoldable pub lineOf : Event → List ℕ → Bool → Remarks → List ℕ
+lineOf event written kept remarks =
     fields
     (decimal (numberOfEvent event)
     ∷ decimal (countOf event)
     ∷ decimal (length written)
     ∷ hexWord written
-    ∷ restWord kept
-    ∷ [])
+    ∷ endWords kept (remarks .skipped) (remarks .used) (remarks .broken))
 
 -- what a call came to: OUTPUT is the bytes written to the lent output, and REST tells of the others
-unfoldable pub outcomeLine : Event → List ℕ → ℕ → List ℕ
-outcomeLine event lent written = lineOf event (take written lent) (isKept written lent)
+unfoldable pub outcomeLine : Outcome → List ℕ → List ℕ
+outcomeLine o lent = lineOf (o .event) (take (o .written) lent) (isKept (o .written) lent) (o .remarks)
 
 -- a start prints like a report
 abbrev pub eventOf : Check → Event

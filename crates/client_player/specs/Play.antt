@@ -7,6 +7,7 @@ use mathlib.Core.Option.{Option, none, some}
 use lib.Dec.{ltb}
 use lib.ListN.{length, replicate}
 use Rattle.lists.specs.Bytes.{overwrite}
+use Rattle.segment.specs.Remarks.{noRemarks}
 use Rattle.client.specs.declared.state.Memory.{Memory}
 use Rattle.client.specs.declared.outcome.Outcome.{Outcome}
 use Rattle.client.specs.declared.outcome.Started.{Started}
@@ -22,7 +23,7 @@ use Rattle.client_player.specs.declared.play.Played.{Played}
 
 -- A start's outcome is that of a report.
 abbrev pub startOutcome : Started → Outcome
-startOutcome s = record { memory = s .memory; event = eventOf (s .check); written = 0 }
+startOutcome s = record { memory = s .memory; event = eventOf (s .check); written = 0; remarks = noRemarks }
 
 abbrev pub outcomeOf : Memory → Request → Outcome
 outcomeOf m (start n) = startOutcome (startOf n)
@@ -50,7 +51,7 @@ pub record Playing : Type 0 where
 
 -- an outcome's, with the output as it is after the request
 abbrev pub outcomePlaying : Outcome → List ℕ → Playing
-outcomePlaying o lent = record { memory = o .memory; reply = Number (numberOfEvent (o .event)); text = outcomeLine (o .event) lent (o .written) }
+outcomePlaying o lent = record { memory = o .memory; reply = Number (numberOfEvent (o .event)); text = outcomeLine o lent }
 
 -- a request that is lent these bytes
 abbrev pub playingWith : Memory → Request → List ℕ → Playing

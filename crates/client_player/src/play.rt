@@ -16,6 +16,7 @@ use client::outcome::Started;
 use client::outcome::event_number;
 use client::state::Memory;
 use segment::options::codings_of;
+use segment::options::no_remarks;
 use text::line::LONGEST;
 use text::line::MOST_BYTES;
 use text::line::Reply;
@@ -49,6 +50,7 @@ fn started(s: Started) -> Outcome
         memory,
         event,
         written: 0,
+        remarks: no_remarks(),
     }
 }
 
@@ -117,7 +119,7 @@ fn play_order(
     let o = make_request(m, order, a, b, d, lent);
     let memory = o.memory;
     let event = o.event;
-    let len = put_outcome(text, event, lent, o.written);
+    let len = put_outcome(text, o, lent);
     let reply = Reply::Number(event_number(event));
     Played { memory, reply, len }
 }

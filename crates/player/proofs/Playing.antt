@@ -68,7 +68,7 @@ ordered l s a b text {o} {lent} h q e f g = rw (← lending l o a b lent (reques
 pub played : (l : Listener) (o : Order) (a b lent text : List ℕ) {x : Outcome} {lent′ part text′ : List ℕ} {len n : ℕ}
     → x ≡ outcomeOf l (requestWith o a b (length lent)) → lent′ ≡ lentAfter l (requestWith o a b (length lent)) lent
     → part ≡ acceptedPart (take (segLen o) b) (x .event) → n ≡ numberOfEvent (x .event)
-    → Put text 0 (outcomeLine (x .listener) (x .event) lent′ (x .written) part) len text′
+    → Put text 0 (outcomeLine x lent′ part) len text′
     → (record { listener = x .listener; reply = Number n; len = len } ≡ playedIn (length text) (playingWith l (requestWith o a b (length lent)) lent))
     × (text′ ≡ laid 0 (playingWith l (requestWith o a b (length lent)) lent .text) text)
 played l o a b lent text e f g h p =

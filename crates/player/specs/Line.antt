@@ -13,8 +13,9 @@ use Rattle.protocol.specs.Call.{numberOfEvent, acceptedOf, SegmentKind, opening
 use Rattle.text.specs.Number.{decimal}
 use Rattle.text.specs.ByteString.{hexWord}
 use Rattle.text.specs.Output.{isKept}
-use Rattle.text.specs.Put.{fields, restWord}
-use Rattle.protocol.specs.declared.state.Listener.{Listener}
+use Rattle.text.specs.Put.{fields, endWords}
+use Rattle.protocol.specs.declared.outcome.Outcome.{Outcome}
+use Rattle.segment.specs.declared.options.Remarks.{Remarks}
 use Rattle.protocol.specs.Step.{pendingNumber}
 
 -- `opening`, `reset`, `completion` or `-`
@@ -31,9 +32,9 @@ verdictWord plain = 112 ∷ 108 ∷ 97 ∷ 105 ∷ 110 ∷ []
 verdictWord repeat = 114 ∷ 101 ∷ 112 ∷ 101 ∷ 97 ∷ 116 ∷ []
 verdictWord noVerdict = 45 ∷ []
 
--- NUMBER KIND VERDICT ACCEPTED WRITTEN PENDING OUTPUT PART REST
-unfoldable pub lineOf : Event → ℕ → List ℕ → List ℕ → Bool → List ℕ
-lineOf event pending written part kept =
+-- NUMBER KIND VERDICT ACCEPTED WRITTEN PENDING OUTPUT PART REST SKIPPED USED BROKEN
+unfoldable pub lineOf : Event → ℕ → List ℕ → List ℕ → Bool → Remarks → List ℕ
+lineOf event pending written part kept remarks =
     fields
     (decimal (numberOfEvent event)
     ∷ kindWord (kindOfEvent event)
@@ -43,12 +44,11 @@ lineOf event pending written part kept =
     ∷ decimal pending
     ∷ hexWord written
     ∷ hexWord part
-    ∷ restWord kept
-    ∷ [])
+    ∷ endWords kept (remarks .skipped) (remarks .used) (remarks .broken))
 
 -- what a call came to: PENDING is the pending number after it, OUTPUT the bytes written to the lent output, and REST tells of the others
-unfoldable pub outcomeLine : Listener → Event → List ℕ → ℕ → List ℕ → List ℕ
-outcomeLine l event lent written part = lineOf event (pendingNumber l) (take written lent) part (isKept written lent)
+unfoldable pub outcomeLine : Outcome → List ℕ → List ℕ → List ℕ
+outcomeLine o lent part = lineOf (o .event) (pendingNumber (o .listener)) (take (o .written) lent) part (isKept (o .written) lent) (o .remarks)
 
 -- a start prints like any other call that is no segment
 abbrev pub eventOf : Check → Event

@@ -10,6 +10,7 @@ use Rattle.lists.specs.Bytes.{overwrite}
 use Rattle.protocol.specs.declared.state.Listener.{Listener}
 use Rattle.protocol.specs.declared.outcome.Outcome.{Outcome}
 use Rattle.protocol.specs.declared.outcome.Started.{Started}
+use Rattle.segment.specs.Remarks.{noRemarks}
 use Rattle.protocol.specs.Call.{segment, settings, key, abandon, resend, close, numberOfEvent, acceptedPart}
 use Rattle.protocol.specs.Step.{startOf, step, outputOf}
 use Rattle.text.specs.Line.{longest, isSilent}
@@ -22,7 +23,7 @@ use Rattle.player.specs.declared.play.Played.{Played}
 
 -- A start's outcome is that of any other call that is no segment.
 abbrev pub startOutcome : Started → Outcome
-startOutcome s = record { listener = s .listener; event = eventOf (s .check); written = 0 }
+startOutcome s = record { listener = s .listener; event = eventOf (s .check); written = 0; remarks = noRemarks }
 
 abbrev pub outcomeOf : Listener → Request → Outcome
 outcomeOf l (start own port k) = startOutcome (startOf own port k)
@@ -70,7 +71,7 @@ outcomePlaying o lent seg =
     record {
       listener = o .listener;
       reply = Number (numberOfEvent (o .event));
-      text = outcomeLine (o .listener) (o .event) lent (o .written) (acceptedPart seg (o .event));
+      text = outcomeLine o lent (acceptedPart seg (o .event));
     }
 
 -- a request that is lent these bytes

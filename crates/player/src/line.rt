@@ -3,14 +3,15 @@ use listener::calls::pending;
 use listener::outcome::accepted_count;
 use listener::outcome::event_number;
 use protocol::outcome::Event;
-use protocol::state::Listener;
+use protocol::outcome::Outcome;
+use segment::options::Remarks;
 use segment::refusal::Check;
 use text::output::is_kept;
 use text::part::first;
 use text::put::put_bytes_field;
+use text::put::put_end;
 use text::put::put_field;
 use text::put::put_number_field;
-use text::put::put_rest;
 ghost use mathlib.Core.Path.{_≡_};
 ghost use mathlib.Core.List.{_++_};
 ghost use lib.ListN.{length};
@@ -18,20 +19,17 @@ ghost use Rattle.protocol.specs.Call.{kindOfEvent, verdictOf};
 ghost use Rattle.text.specs.Put.{placeAfter, laid, field};
 ghost use Rattle.player.specs.Line.{kindWord, verdictWord, lineOf, outcomeLine, eventOf};
 
-// Puts the line of what a call came to at the buffer's start, and returns where it ends: `l` is the listener after it, `lent` the output that was lent to it.
-pub(crate) fn put_outcome(
-    out: &mut [u8],
-    l: Listener,
-    event: Event,
-    lent: &[u8],
-    written: usize,
-    part: &[u8],
-) -> usize
-    ensures { λ r. ⌜ r ≡ placeAfter 0 (length (outcomeLine l event (now (lent .entry)) written (now (part .entry)))) (length (now (out .entry))) ⌝ }
-    ensures { λ _. ⌜ now (out .exit) ≡ laid 0 (outcomeLine l event (now (lent .entry)) written (now (part .entry))) (now (out .entry)) ⌝ }
+// Puts the line of what a call came to at the buffer's start, and returns where it ends: `lent` is the output that was lent to it.
+pub(crate) fn put_outcome(out: &mut [u8], o: Outcome, lent: &[u8], part: &[u8]) -> usize
+    ensures { λ r. ⌜ r ≡ placeAfter 0 (length (outcomeLine o (now (lent .entry)) (now (part .entry)))) (length (now (out .entry))) ⌝ }
+    ensures { λ _. ⌜ now (out .exit) ≡ laid 0 (outcomeLine o (now (lent .entry)) (now (part .entry))) (now (out .entry)) ⌝ }
 {
+    let l = o.listener;
+    let event = o.event;
+    let remarks = o.remarks;
+    let written = o.written;
     let kept = is_kept(lent, written);
-    put_fields(out, event, pending(l), first(lent, written), part, kept)
+    put_fields(out, event, pending(l), first(lent, written), part, kept, remarks)
 }
 
 // Puts the fields of an outcome.
@@ -42,9 +40,10 @@ fn put_fields(
     written: &[u8],
     part: &[u8],
     kept: bool,
+    remarks: Remarks,
 ) -> usize
-    ensures { λ r. ⌜ r ≡ placeAfter 0 (length (lineOf event pending (now (written .entry)) (now (part .entry)) kept)) (length (now (out .entry))) ⌝ }
-    ensures { λ _. ⌜ now (out .exit) ≡ laid 0 (lineOf event pending (now (written .entry)) (now (part .entry)) kept) (now (out .entry)) ⌝ }
+    ensures { λ r. ⌜ r ≡ placeAfter 0 (length (lineOf event pending (now (written .entry)) (now (part .entry)) kept remarks)) (length (now (out .entry))) ⌝ }
+    ensures { λ _. ⌜ now (out .exit) ≡ laid 0 (lineOf event pending (now (written .entry)) (now (part .entry)) kept remarks) (now (out .entry)) ⌝ }
 {
     let a = put_number_field(out, 0, event_number(event) as u64);
     let b = put_kind_and_verdict(out, a, event);
@@ -53,7 +52,14 @@ fn put_fields(
     let e = put_number_field(out, d, pending as u64);
     let f = put_bytes_field(out, e, written);
     let g = put_bytes_field(out, f, part);
-    put_rest(out, g, kept)
+    put_end(
+        out,
+        g,
+        kept,
+        remarks.skipped as u64,
+        remarks.used as u64,
+        remarks.broken as u64,
+    )
 }
 
 fn put_kind_and_verdict(out: &mut [u8], at: usize, event: Event) -> usize

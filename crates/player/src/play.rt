@@ -18,6 +18,7 @@ use listener::outcome::event_number;
 use protocol::outcome::Outcome;
 use protocol::outcome::Started;
 use protocol::state::Listener;
+use segment::options::no_remarks;
 use text::line::LONGEST;
 use text::line::MOST_BYTES;
 use text::line::Reply;
@@ -53,6 +54,7 @@ fn started(s: Started) -> Outcome
         listener,
         event,
         written: 0,
+        remarks: no_remarks(),
     }
 }
 
@@ -112,7 +114,7 @@ fn play_order(
     let listener = o.listener;
     let event = o.event;
     let part = accepted_part(first(b, seg_len(order)), event);
-    let len = put_outcome(text, listener, event, lent, o.written, part);
+    let len = put_outcome(text, o, lent, part);
     let reply = Reply::Number(event_number(event));
     Played {
         listener,

@@ -5,6 +5,7 @@ use mathlib.Core.Bool.{Bool, true, false}
 use mathlib.Core.List.{List, [], _∷_, _++_}
 use lib.ListN.{length}
 use lib.Seq.{paste}
+use Rattle.text.specs.Number.{decimal}
 
 -- how many of n bytes fit from a place on, in a buffer of so many
 abbrev pub fitting : ℕ → ℕ → ℕ → ℕ
@@ -35,6 +36,10 @@ fields (word ∷ next ∷ words) = field word ++ fields (next ∷ words)
 abbrev pub restWord : Bool → List ℕ
 restWord true = 107 ∷ 101 ∷ 112 ∷ 116 ∷ []
 restWord false = 99 ∷ 104 ∷ 97 ∷ 110 ∷ 103 ∷ 101 ∷ 100 ∷ []
+
+-- a line's last words: REST SKIPPED USED BROKEN
+abbrev pub endWords : Bool → ℕ → ℕ → ℕ → List (List ℕ)
+endWords kept skipped used broken = restWord kept ∷ decimal skipped ∷ decimal used ∷ decimal broken ∷ []
 
 -- what a line that cannot be read prints: `bad line` and a line feed
 abbrev pub badLine : List ℕ

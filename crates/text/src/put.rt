@@ -4,7 +4,7 @@ ghost use mathlib.Core.Path.{_≡_};
 ghost use mathlib.Core.List.{[], _∷_};
 ghost use Prim.Native.Nat.{_/_, _%_, _<_};
 ghost use lib.ListN.{length};
-ghost use Rattle.text.specs.Put.{placeAfter, laid, field, lastField, restWord, badLine};
+ghost use Rattle.text.specs.Put.{placeAfter, laid, field, lastField, fields, restWord, endWords, badLine};
 ghost use Rattle.text.specs.Number.{decimal};
 ghost use Rattle.text.specs.ByteString.{hexDigit, hexOf, hexWord};
 
@@ -81,16 +81,43 @@ pub fn put_bad_line(out: &mut [u8], at: usize) -> usize
     put(out, at, b"bad line\n")
 }
 
-// Puts a line's last word, whether the bytes past the written ones are as they were, and its line feed.
-pub fn put_rest(out: &mut [u8], at: usize, kept: bool) -> usize
-    ensures { λ r. ⌜ r ≡ placeAfter at (length (lastField (restWord kept))) (length (now (out .entry))) ⌝ }
-    ensures { λ _. ⌜ now (out .exit) ≡ laid at (lastField (restWord kept)) (now (out .entry)) ⌝ }
+// Puts a line's last four words and its line feed: whether the bytes past the written ones are as they were, and what was remarked on the options.
+pub fn put_end(
+    out: &mut [u8],
+    at: usize,
+    kept: bool,
+    skipped: u64,
+    used: u64,
+    broken: u64,
+) -> usize
+    ensures { λ r. ⌜ r ≡ placeAfter at (length (fields (endWords kept skipped used broken))) (length (now (out .entry))) ⌝ }
+    ensures { λ _. ⌜ now (out .exit) ≡ laid at (fields (endWords kept skipped used broken)) (now (out .entry)) ⌝ }
+{
+    let a = put_rest(out, at, kept);
+    let b = put_number_field(out, a, skipped);
+    let c = put_number_field(out, b, used);
+    put_last_number(out, c, broken)
+}
+
+// Puts whether the bytes past the written ones are as they were.
+fn put_rest(out: &mut [u8], at: usize, kept: bool) -> usize
+    ensures { λ r. ⌜ r ≡ placeAfter at (length (field (restWord kept))) (length (now (out .entry))) ⌝ }
+    ensures { λ _. ⌜ now (out .exit) ≡ laid at (field (restWord kept)) (now (out .entry)) ⌝ }
 {
     if kept {
-        put(out, at, b"kept\n")
+        put(out, at, b"kept ")
     } else {
-        put(out, at, b"changed\n")
+        put(out, at, b"changed ")
     }
+}
+
+// Puts a number and a line feed.
+fn put_last_number(out: &mut [u8], at: usize, n: u64) -> usize
+    ensures { λ r. ⌜ r ≡ placeAfter at (length (lastField (decimal n))) (length (now (out .entry))) ⌝ }
+    ensures { λ _. ⌜ now (out .exit) ≡ laid at (lastField (decimal n)) (now (out .entry)) ⌝ }
+{
+    let next = put_number(out, at, n);
+    put(out, next, b"\n")
 }
 
 fn put_hex(out: &mut [u8], at: usize, src: &[u8]) -> usize

@@ -5,10 +5,10 @@ use Rattle.client_player.proofs.play.started.Statement.{statement}
 use Rattle.client_player.proofs.play.started.Tie as tie
 
 returns : tie.Need-returns
-returns c = rw (c .event-of .ensures)
+returns c = rw (c .before .event-of .ensures, c .no-remarks .ensures)
 
 pub started-spec : {M : Type 1} → statement M
 started-spec =
     tie.close
     (tie.spec
-    (λ c κs. search needs) returns)
+    (λ c κs. search needs) (λ c κs. search needs) returns)

@@ -7,7 +7,7 @@ use lib.ListN.{length}
 use Rattle.protocol.specs.Call.{numberOfEvent, acceptedOf, kindOfEvent, verdictOf}
 use Rattle.text.specs.Number.{decimal}
 use Rattle.text.specs.ByteString.{hexWord}
-use Rattle.text.specs.Put.{field, lastField, fields, restWord}
+use Rattle.text.specs.Put.{field, fields, restWord, endWords}
 use Rattle.text.proofs.Puts.{Put, put-then, same-put}
 use Rattle.player.specs.Line.{kindWord, verdictWord, lineOf}
 use borrow.Author.Needs.{needs}
@@ -15,11 +15,11 @@ use Rattle.player.proofs.line.put_fields.Statement.{statement}
 use Rattle.player.proofs.line.put_fields.Tie as tie
 
 -- the line's words, put one after the other
-joined : (number kind verdict accepted count pending output part rest : List ℕ)
-    → field number ++ (field kind ++ field verdict) ++ field accepted ++ field count ++ field pending ++ field output ++ field part ++ lastField rest
-    ≡ fields (number ∷ kind ∷ verdict ∷ accepted ∷ count ∷ pending ∷ output ∷ part ∷ rest ∷ [])
+joined : (number kind verdict accepted count pending output part rest skipped used broken : List ℕ)
+    → field number ++ (field kind ++ field verdict) ++ field accepted ++ field count ++ field pending ++ field output ++ field part ++ fields (rest ∷ skipped ∷ used ∷ broken ∷ [])
+    ≡ fields (number ∷ kind ∷ verdict ∷ accepted ∷ count ∷ pending ∷ output ∷ part ∷ rest ∷ skipped ∷ used ∷ broken ∷ [])
 unfolding fields
-joined number kind verdict accepted count pending output part rest = simp append-assoc
+joined number kind verdict accepted count pending output part rest skipped used broken = simp append-assoc
 
 returns : tie.Need-returns
 unfolding lineOf
@@ -32,6 +32,7 @@ returns c =
     let count = field (decimal (length (s .written .now))) in
     let pending = field (decimal (s .pending)) in
     let output = field (hexWord (s .written .now)) in
+    let end = fields (endWords (s .kept) (s .remarks .skipped) (s .remarks .used) (s .remarks .broken)) in
     let part = field (hexWord (s .part .now)) in
     let a : Put o 0 number _ _ = rw (c .before .before .before .before .before .before .before .before .before .before .before .before .before .before .before .before .before .before .before .before .before .before .before .before .before .before .before .before .before .before .before .before .event-number .ensures) at (c .before .before .before .before .before .before .before .before .before .before .before .before .before .before .before .before .before .before .before .before .before .before .before .before .before .before .before .before .before .before .before .put-number-field .ensures) in
     let j = c .before .before .before .before .before .before .before .before .before .before .before .before .before .before .before .before .before .before .before .before .before .before .before .before .before .before .before .put-kind-and-verdict .ensures in
@@ -46,9 +47,9 @@ returns c =
     let g = put-then o 0 (number ++ kinds ++ accepted ++ count ++ pending) output (f .0) (f .1) (q .0) (q .1) in
     let r = c .before .before .before .before .before .before .put-bytes-field2 .ensures in
     let h = put-then o 0 (number ++ kinds ++ accepted ++ count ++ pending ++ output) part (g .0) (g .1) (r .0) (r .1) in
-    let t = c .before .before .put-rest .ensures in
-    let i = put-then o 0 (number ++ kinds ++ accepted ++ count ++ pending ++ output ++ part) (lastField (restWord (s .kept))) (h .0) (h .1) (t .0) (t .1) in
-    same-put o 0 _ (lineOf (s .event) (s .pending) (s .written .now) (s .part .now) (s .kept)) _ _ (joined (decimal (numberOfEvent (s .event))) (kindWord (kindOfEvent (s .event))) (verdictWord (verdictOf (s .event))) (decimal (acceptedOf (s .event))) (decimal (length (s .written .now))) (decimal (s .pending)) (hexWord (s .written .now)) (hexWord (s .part .now)) (restWord (s .kept))) i
+    let t = c .before .before .put-end .ensures in
+    let i = put-then o 0 (number ++ kinds ++ accepted ++ count ++ pending ++ output ++ part) end (h .0) (h .1) (t .0) (t .1) in
+    same-put o 0 _ (lineOf (s .event) (s .pending) (s .written .now) (s .part .now) (s .kept) (s .remarks)) _ _ (joined (decimal (numberOfEvent (s .event))) (kindWord (kindOfEvent (s .event))) (verdictWord (verdictOf (s .event))) (decimal (acceptedOf (s .event))) (decimal (length (s .written .now))) (decimal (s .pending)) (hexWord (s .written .now)) (hexWord (s .part .now)) (restWord (s .kept)) (decimal (s .remarks .skipped)) (decimal (s .remarks .used)) (decimal (s .remarks .broken))) i
 
 pub put-fields-spec : {M : Type 1} → statement M
 put-fields-spec =

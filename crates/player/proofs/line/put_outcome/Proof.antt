@@ -5,8 +5,7 @@ use mathlib.Core.Path.{_≡_}
 use mathlib.Core.Bool.{Bool}
 use mathlib.Core.List.{List}
 use lib.ListN.{take}
-use Rattle.protocol.specs.declared.outcome.Event.{Event}
-use Rattle.protocol.specs.declared.state.Listener.{Listener}
+use Rattle.protocol.specs.declared.outcome.Outcome.{Outcome}
 use Rattle.protocol.specs.Step.{pendingNumber}
 use Rattle.text.specs.Output.{isKept}
 use Rattle.text.proofs.Puts.{same-put}
@@ -16,15 +15,15 @@ use Rattle.player.proofs.line.put_outcome.Statement.{statement}
 use Rattle.player.proofs.line.put_outcome.Tie as tie
 
 -- the line, of what is pending, what was written and whether the rest is kept
-line-of : (l : Listener) (event : Event) (lent : List ℕ) (n : ℕ) (part : List ℕ) {pending : ℕ} {written : List ℕ} {kept : Bool} → pending ≡ pendingNumber l
-    → written ≡ take n lent → kept ≡ isKept n lent → lineOf event pending written part kept ≡ outcomeLine l event lent n part
+line-of : (o : Outcome) (lent part : List ℕ) {pending : ℕ} {written : List ℕ} {kept : Bool} → pending ≡ pendingNumber (o .listener)
+    → written ≡ take (o .written) lent → kept ≡ isKept (o .written) lent → lineOf (o .event) pending written part kept (o .remarks) ≡ outcomeLine o lent part
 unfolding outcomeLine
-line-of l event lent n part p q r = rw (p, q, r)
+line-of o lent part p q r = rw (p, q, r)
 
 returns : tie.Need-returns
 returns c =
-    let s = c .before .before .before .before .before .before .before .before .before .before .args in
-    same-put (s .out .now) 0 _ (outcomeLine (s .l) (s .event) (s .lent .now) (s .written) (s .part .now)) _ _ (line-of (s .l) (s .event) (s .lent .now) (s .written) (s .part .now) (c .before .before .before .before .pending .ensures) (c .before .before .before .first .ensures) (c .before .before .before .before .before .before .is-kept .ensures)) (c .before .before .put-fields .ensures)
+    let s = c .before .before .before .before .before .before .before .before .before .before .before .before .args in
+    same-put (s .out .now) 0 _ (outcomeLine (s .o) (s .lent .now) (s .part .now)) _ _ (line-of (s .o) (s .lent .now) (s .part .now) (c .before .before .before .before .pending .ensures) (c .before .before .before .first .ensures) (c .before .before .before .before .before .before .is-kept .ensures)) (c .before .before .put-fields .ensures)
 
 pub put-outcome-spec : {M : Type 1} → statement M
 put-outcome-spec =
