@@ -1,6 +1,6 @@
 //! The client's memory: cookies and segment sizes by server, and servers to leave alone.
 
-use crate::wire::{self, Coding, Codings, Header, Refusal, Segment, ACK, FIN, RST, SYN};
+use crate::wire::{self, Coding, Codings, Header, Reading, Refusal, Segment, ACK, FIN, RST, SYN};
 
 pub const PLACES: usize = 32;
 pub const LEAST_OUTPUT: usize = 1504;
@@ -45,6 +45,14 @@ pub struct Attempt<'a> {
 pub struct Opened {
     pub sent: usize,
     pub written: usize,
+}
+
+/// What an answer said.
+#[derive(Clone, Copy, Debug, PartialEq, Eq)]
+pub struct Learnt {
+    /// How many of the bytes sent it acknowledges.
+    pub acknowledged: u32,
+    pub reading: Reading,
 }
 
 impl Client {
@@ -119,8 +127,7 @@ impl Client {
         Ok(Opened { sent: sent.len(), written })
     }
 
-    /// Learns from the answer to an attempt, its options read under a setting of its own; says
-    /// how many bytes it acknowledges.
+    /// Learns from the answer to an attempt, its options read under a setting of its own.
     pub fn answer(
         &mut self,
         time: u64,
@@ -128,7 +135,7 @@ impl Client {
         sent: u32,
         segment: &[u8],
         codings: Codings,
-    ) -> Result<u32, Refusal> {
+    ) -> Result<Learnt, Refusal> {
         let memory = self.at(time)?;
         memory.check_family(attempt.own)?;
         memory.check_family(attempt.server)?;
@@ -158,7 +165,7 @@ impl Client {
             memory.ban(attempt.server, attempt.server_port, time);
         }
         memory.clock = time;
-        Ok(acknowledged)
+        Ok(Learnt { acknowledged, reading: options.reading })
     }
 
     /// A timeout or an ICMP error was reported for a server.

@@ -1,7 +1,7 @@
 //! The listener: 64 connections between their opening and their hand-over.
 
 use crate::aes::Schedule;
-use crate::wire::{self, Coding, Codings, Header, Options, Refusal, Segment, ACK, FIN, RST, SYN};
+use crate::wire::{self, Coding, Codings, Header, Options, Reading, Refusal, Segment, ACK, FIN, RST, SYN};
 
 pub const SLOTS: usize = 64;
 pub const LEAST_OUTPUT: usize = 36;
@@ -31,6 +31,15 @@ pub struct Reply {
     pub kind: Kind,
     pub accepted: usize,
     pub written: usize,
+    /// Of an opening's options; nothing where there is no SYN.
+    pub reading: Reading,
+}
+
+impl Reply {
+    /// One that accepts, writes and tells nothing.
+    pub fn bare(kind: Kind) -> Reply {
+        Reply { kind, accepted: 0, written: 0, reading: Reading::default() }
+    }
 }
 
 #[derive(Clone, Copy, Debug, PartialEq, Eq)]
@@ -312,24 +321,17 @@ impl Front {
         out: &mut [u8],
     ) -> Result<Reply, Refusal> {
         let survey = self.survey(name, time);
-        let irs = segment.sequence();
         if let Some(place) = survey.named {
-            let slot = self.slots[place];
-            let expected = slot.expected().filter(|_| slot.irs == irs).ok_or(Refusal::NotARepeat)?;
-            let written = self.answer(name, slot.iss, expected, None, out);
-            return Ok(Reply { kind: Kind::Opening(Verdict::Repeat), accepted: 0, written });
+            return self.repeat(self.slots[place], segment, out);
         }
         let place = survey.free.ok_or(Refusal::TableFull)?;
 
+        let irs = segment.sequence();
+        let options = self.read_options(segment);
         let allowed = self.settings.on && survey.pending < self.settings.limit;
-        let options = if allowed {
-            wire::read_options(segment.options(), self.settings.codings)
-        } else {
-            Options::default()
-        };
         let mut early = false;
         let mut fresh = None;
-        if let Some(option) = options.fast_open {
+        if let Some(option) = options.fast_open.filter(|_| allowed) {
             let present = cookie_for(&self.present, name.block);
             let right_now = option.cookie == present;
             early = right_now
@@ -349,7 +351,21 @@ impl Front {
         self.slots[place] = slot;
         let expected = irs.wrapping_add(1).wrapping_add(accepted as u32);
         let written = self.answer(name, ours, expected, fresh, out);
-        Ok(Reply { kind: Kind::Opening(verdict), accepted, written })
+        Ok(Reply { accepted, written, reading: options.reading, ..Reply::bare(Kind::Opening(verdict)) })
+    }
+
+    /// An opening for a name that is in the table.
+    fn repeat(&self, slot: Slot, segment: &Segment, out: &mut [u8]) -> Result<Reply, Refusal> {
+        let same = slot.irs == segment.sequence();
+        let expected = slot.expected().filter(|_| same).ok_or(Refusal::NotARepeat)?;
+        let written = self.answer(slot.name, slot.iss, expected, None, out);
+        let reading = self.read_options(segment).reading;
+        Ok(Reply { written, reading, ..Reply::bare(Kind::Opening(Verdict::Repeat)) })
+    }
+
+    /// An opening's options, under the setting now in force.
+    fn read_options<'a>(&self, segment: &Segment<'a>) -> Options<'a> {
+        wire::read_options(segment.options(), self.settings.codings)
     }
 
     fn completion(&mut self, time: u64, name: Name, segment: &Segment) -> Result<Reply, Refusal> {
@@ -360,7 +376,7 @@ impl Front {
             return Err(Refusal::Number);
         }
         slot.status = Status::Open;
-        Ok(Reply { kind: Kind::Completion, accepted: 0, written: 0 })
+        Ok(Reply::bare(Kind::Completion))
     }
 
     fn reset(&mut self, time: u64, name: Name, segment: &Segment) -> Result<Reply, Refusal> {
@@ -372,7 +388,7 @@ impl Front {
         // An early one goes on counting against the limit for a while, so that resets
         // can't be used to get round it.
         slot.status = if slot.status == Status::Plain { Status::Free } else { Status::Held { until } };
-        Ok(Reply { kind: Kind::Reset, accepted: 0, written: 0 })
+        Ok(Reply::bare(Kind::Reset))
     }
 
     /// The plain or early slot of a name, with the sequence number expected on it.

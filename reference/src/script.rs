@@ -3,9 +3,9 @@
 use std::fmt::Write as _;
 use std::io::{self, BufRead, Write};
 
-use crate::client::{Attempt, Client};
-use crate::listener::{accepted_part, Kind, Listener, Settings, Verdict};
-use crate::wire::{Codings, Refusal};
+use crate::client::{Attempt, Client, Learnt, Opened};
+use crate::listener::{accepted_part, Kind, Listener, Reply, Settings, Verdict};
+use crate::wire::{Codings, Reading, Refusal};
 
 pub const LONGEST_LINE: usize = 8192;
 pub const MOST_OUTPUT: u64 = 2048;
@@ -163,6 +163,46 @@ fn rest(out: &[u8], written: usize) -> &'static str {
     }
 }
 
+/// The words that end every answer.
+fn told(reading: Reading) -> String {
+    format!("{} {} {}", reading.skipped, reading.used, reading.broken)
+}
+
+fn number<T>(result: &Result<T, Refusal>) -> u8 {
+    result.as_ref().map_or_else(|refusal| refusal.number(), |_| 0)
+}
+
+/// What a done call of the listener says; a refused one says nothing.
+struct ListenerDone<'a> {
+    kind: &'static str,
+    verdict: &'static str,
+    accepted: usize,
+    written: usize,
+    part: &'a [u8],
+    reading: Reading,
+}
+
+impl Default for ListenerDone<'_> {
+    fn default() -> Self {
+        let reading = Reading::default();
+        ListenerDone { kind: "-", verdict: "-", accepted: 0, written: 0, part: &[], reading }
+    }
+}
+
+impl<'a> ListenerDone<'a> {
+    fn segment(reply: Reply, segment: &'a [u8]) -> ListenerDone<'a> {
+        let (kind, verdict) = match reply.kind {
+            Kind::Opening(Verdict::Early) => ("opening", "early"),
+            Kind::Opening(Verdict::Plain) => ("opening", "plain"),
+            Kind::Opening(Verdict::Repeat) => ("opening", "repeat"),
+            Kind::Reset => ("reset", "-"),
+            Kind::Completion => ("completion", "-"),
+        };
+        let Reply { accepted, written, reading, .. } = reply;
+        ListenerDone { kind, verdict, accepted, written, part: accepted_part(segment, accepted), reading }
+    }
+}
+
 pub struct ListenerSession {
     pub listener: Listener,
 }
@@ -172,22 +212,26 @@ impl ListenerSession {
         ListenerSession { listener: Listener::never_started() }
     }
 
-    fn refused(&self, refusal: Refusal, out: &[u8]) -> String {
-        let pending = self.listener.pending();
-        format!("{} - - 0 0 {pending} - - {}", refusal.number(), rest(out, 0))
+    fn answer(&self, result: Result<ListenerDone, Refusal>, out: &[u8]) -> String {
+        let number = number(&result);
+        let done = result.unwrap_or_default();
+        format!(
+            "{number} {} {} {} {} {} {} {} {} {}",
+            done.kind,
+            done.verdict,
+            done.accepted,
+            done.written,
+            self.listener.pending(),
+            hex(&out[..done.written]),
+            hex(done.part),
+            rest(out, done.written),
+            told(done.reading)
+        )
     }
 
     /// The line for a call that is no segment.
     fn by_rote(&self, result: Result<usize, Refusal>, out: &[u8]) -> String {
-        match result {
-            Ok(written) => format!(
-                "0 - - 0 {written} {} {} - {}",
-                self.listener.pending(),
-                hex(&out[..written]),
-                rest(out, written)
-            ),
-            Err(refusal) => self.refused(refusal, out),
-        }
+        self.answer(result.map(|written| ListenerDone { written, ..ListenerDone::default() }), out)
     }
 }
 
@@ -234,26 +278,8 @@ impl Session for ListenerSession {
                 let (time, source, ours) = (words.u64()?, words.bytes()?, words.u32()?);
                 let (mut out, segment) = (words.output()?, words.bytes()?);
                 words.end()?;
-                let reply = match self.listener.segment(time, &source, ours, &segment, &mut out) {
-                    Ok(reply) => reply,
-                    Err(refusal) => return Some(self.refused(refusal, &out)),
-                };
-                let (kind, verdict) = match reply.kind {
-                    Kind::Opening(Verdict::Early) => ("opening", "early"),
-                    Kind::Opening(Verdict::Plain) => ("opening", "plain"),
-                    Kind::Opening(Verdict::Repeat) => ("opening", "repeat"),
-                    Kind::Reset => ("reset", "-"),
-                    Kind::Completion => ("completion", "-"),
-                };
-                Some(format!(
-                    "0 {kind} {verdict} {} {} {} {} {} {}",
-                    reply.accepted,
-                    reply.written,
-                    self.listener.pending(),
-                    hex(&out[..reply.written]),
-                    hex(accepted_part(&segment, reply.accepted)),
-                    rest(&out, reply.written)
-                ))
+                let reply = self.listener.segment(time, &source, ours, &segment, &mut out);
+                Some(self.answer(reply.map(|reply| ListenerDone::segment(reply, &segment)), &out))
             }
             b"abandon" => {
                 let (time, source, port) = (words.u64()?, words.bytes()?, words.u16()?);
@@ -289,13 +315,30 @@ impl ClientSession {
     }
 }
 
-fn client_line(result: Result<(u32, usize), Refusal>, out: &[u8]) -> String {
-    match result {
-        Ok((count, written)) => {
-            format!("0 {count} {written} {} {}", hex(&out[..written]), rest(out, written))
-        }
-        Err(refusal) => format!("{} 0 0 - {}", refusal.number(), rest(out, 0)),
+/// What a done call of the client says; a refused one says nothing.
+#[derive(Default)]
+struct ClientDone {
+    count: u32,
+    written: usize,
+    reading: Reading,
+}
+
+impl From<Opened> for ClientDone {
+    fn from(opened: Opened) -> ClientDone {
+        ClientDone { count: opened.sent as u32, written: opened.written, ..ClientDone::default() }
     }
+}
+
+impl From<Learnt> for ClientDone {
+    fn from(learnt: Learnt) -> ClientDone {
+        ClientDone { count: learnt.acknowledged, reading: learnt.reading, ..ClientDone::default() }
+    }
+}
+
+fn client_line(result: Result<ClientDone, Refusal>, out: &[u8]) -> String {
+    let number = number(&result);
+    let ClientDone { count, written, reading } = result.unwrap_or_default();
+    format!("{number} {count} {written} {} {} {}", hex(&out[..written]), rest(out, written), told(reading))
 }
 
 impl Session for ClientSession {
@@ -307,7 +350,7 @@ impl Session for ClientSession {
                 let result = match Client::start(family) {
                     Ok(client) => {
                         self.client = client;
-                        Ok((0, 0))
+                        Ok(ClientDone::default())
                     }
                     Err(refusal) => {
                         self.client = Client::never_started();
@@ -325,7 +368,7 @@ impl Session for ClientSession {
                 words.end()?;
                 let attempt = Attempt { own: &own, own_port, server: &server, server_port, ours };
                 let result = self.client.open(time, &attempt, mss, &data, &mut out);
-                Some(client_line(result.map(|open| (open.sent as u32, open.written)), &out))
+                Some(client_line(result.map(ClientDone::from), &out))
             }
             b"answer" => {
                 let time = words.u64()?;
@@ -336,13 +379,13 @@ impl Session for ClientSession {
                 words.end()?;
                 let attempt = Attempt { own: &own, own_port, server: &server, server_port, ours };
                 let result = self.client.answer(time, &attempt, sent, &segment, codings);
-                Some(client_line(result.map(|count| (count, 0)), &[]))
+                Some(client_line(result.map(ClientDone::from), &[]))
             }
             b"failed" => {
                 let (time, server, port) = (words.u64()?, words.bytes()?, words.u16()?);
                 words.end()?;
                 let result = self.client.failed(time, &server, port);
-                Some(client_line(result.map(|()| (0, 0)), &[]))
+                Some(client_line(result.map(|()| ClientDone::default()), &[]))
             }
             _ => None,
         }

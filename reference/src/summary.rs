@@ -14,6 +14,10 @@ pub struct Summary {
     pub with_output: usize,
     /// Answers that accepted, sent or acknowledged at least one byte.
     pub with_count: usize,
+    /// Answers that tell of skipped Fast Open options, of one used, of a reading that broke off.
+    pub skipped: usize,
+    pub used: usize,
+    pub broken: usize,
     pub changed: usize,
     pub most_pending: usize,
     /// Lines that aren't answers.
@@ -37,13 +41,17 @@ impl Summary {
             return;
         }
         let words: Vec<&str> = line.split(' ').collect();
-        let shape = if listener { 9 } else { 5 };
+        let shape = if listener { 12 } else { 8 };
         let Some(number) = words[0].parse().ok().filter(|_| words.len() == shape) else {
             self.strange += 1;
             return;
         };
         *self.numbers.entry(number).or_default() += 1;
-        self.changed += usize::from(words[shape - 1] != "kept");
+        let last = &words[shape - 4..];
+        self.changed += usize::from(last[0] != "kept");
+        self.skipped += usize::from(last[1] != "0");
+        self.used += usize::from(last[2] != "0");
+        self.broken += usize::from(last[3] != "0");
         let (count, written) = if listener { (words[3], words[4]) } else { (words[1], words[2]) };
         self.with_count += usize::from(count != "0");
         self.with_output += usize::from(written != "0");
@@ -66,6 +74,9 @@ impl Summary {
         }
         println!("with output       {:>8}", self.with_output);
         println!("with count        {:>8}", self.with_count);
+        println!("with skipped      {:>8}", self.skipped);
+        println!("with used         {:>8}", self.used);
+        println!("broken off        {:>8}", self.broken);
         if listener {
             println!("most pending      {:>8}", self.most_pending);
         }

@@ -2,12 +2,12 @@
 
 use std::collections::BTreeMap;
 
-use crate::client::{Attempt, Client, Memory, BAN_MS, LEAST_OUTPUT as CLIENT_OUTPUT};
+use crate::client::{Attempt, Client, Learnt, Memory, BAN_MS, LEAST_OUTPUT as CLIENT_OUTPUT};
 use crate::generate;
 use crate::listener::{accepted_part, cookie, Kind, Listener, Reply, Settings, Verdict, LEAST_OUTPUT};
 use crate::script::{self, ClientSession, ListenerSession, Session};
 use crate::summary::Summary;
-use crate::wire::{self, Coding, Codings, Header, Refusal, ACK, FIN, LAST_TIME, RST, SYN};
+use crate::wire::{self, Coding, Codings, Header, Reading, Refusal, ACK, FIN, LAST_TIME, RST, SYN};
 
 const KEY: [u8; 16] = [0, 1, 2, 3, 4, 5, 6, 7, 8, 9, 10, 11, 12, 13, 14, 15];
 const OWN: [u8; 4] = [192, 0, 2, 2];
@@ -93,6 +93,15 @@ impl Box64 {
     }
 }
 
+/// How many were skipped, where the one used begins, and where reading broke off.
+const fn told(skipped: usize, used: usize, broken: usize) -> Reading {
+    Reading { skipped, used, broken }
+}
+
+fn opened(verdict: Verdict, accepted: usize, written: usize, reading: Reading) -> Reply {
+    Reply { accepted, written, reading, ..Reply::bare(Kind::Opening(verdict)) }
+}
+
 fn verdict(reply: Result<Reply, Refusal>) -> Option<Verdict> {
     match reply {
         Ok(Reply { kind: Kind::Opening(verdict), .. }) => Some(verdict),
@@ -127,7 +136,7 @@ fn rows_3_to_5_window() {
         let mut front = Box64::with(SETTINGS);
         front.open(PORT, 4_294_967_290, &right(), b"0123456789").unwrap();
         let reply = front.segment(0, 0, &seg(PORT, sequence, 1001, ACK, &[], b"data"));
-        let done = Ok(Reply { kind: Kind::Completion, accepted: 0, written: 0 });
+        let done = Ok(Reply::bare(Kind::Completion));
         assert_eq!(reply, if admitted { done } else { Err(Refusal::Number) }, "{sequence}");
         assert_eq!(front.listener.pending(), u32::from(!admitted));
     }
@@ -215,12 +224,12 @@ fn cookie_lengths_of_the_older_coding() {
         assert_eq!((used.coding, used.cookie.len()), (Coding::Older, cookie));
         let mut front = Box64::coded(Coding::Older, BOTH);
         let reply = front.open(PORT, 1, &vec![7; cookie], b"x").unwrap();
-        assert_eq!(reply, Reply { kind: Kind::Opening(Verdict::Plain), accepted: 0, written: 36 });
+        assert_eq!(reply, opened(Verdict::Plain, 0, 36, told(0, 1, 0)));
     }
     for length in [5, 6, 7, 9, 11, 17, 19, 21, 22, 24, 36] {
         let mut front = Box64::coded(Coding::Older, BOTH);
         let reply = front.open(PORT, 1, &vec![7; length - 4], b"x").unwrap();
-        assert_eq!(reply, Reply { kind: Kind::Opening(Verdict::Plain), accepted: 0, written: 24 });
+        assert_eq!(reply, opened(Verdict::Plain, 0, 24, told(1, 0, 0)));
     }
 }
 
@@ -241,10 +250,10 @@ fn answers_in_the_older_coding() {
     for offered in [&[][..], &[7; 8], &[7; 16]] {
         let mut front = Box64::coded(Coding::Older, BOTH);
         let reply = front.open(PORT, 7, offered, b"x").unwrap();
-        assert_eq!(reply, Reply { kind: Kind::Opening(Verdict::Plain), accepted: 0, written: 36 });
+        assert_eq!(reply, opened(Verdict::Plain, 0, 36, told(0, 1, 0)));
         assert_eq!(front.out, OLDER_COOKIE);
         let reply = front.open(PORT, 7, offered, b"x").unwrap();
-        assert_eq!(reply, Reply { kind: Kind::Opening(Verdict::Repeat), accepted: 0, written: 24 });
+        assert_eq!(reply, opened(Verdict::Repeat, 0, 24, told(0, 1, 0)));
         assert_eq!(front.out[..24], SHORT);
         assert_eq!(front.resend(PORT), 24);
         assert_eq!(front.out[..24], SHORT);
@@ -290,14 +299,14 @@ fn the_older_coding_under_new_only() {
     let mut front = Box64::coded(Coding::Older, SETTINGS);
     for (port, offered) in [(PORT, &right()[..]), (PORT + 1, &[7; 8]), (PORT + 2, &[])] {
         let reply = front.open(port, 7, offered, b"x").unwrap();
-        assert_eq!(reply, Reply { kind: Kind::Opening(Verdict::Plain), accepted: 0, written: 24 });
+        assert_eq!(reply, opened(Verdict::Plain, 0, 24, told(0, 0, 0)));
     }
     // Kind 34 behind it is the one used.
     let behind = |cookie: &[u8]| [older(&[7; 8]), fast_open(cookie)].concat();
     let reply = front.open_with(PORT + 3, 7, &behind(&right()), b"x").unwrap();
-    assert_eq!(reply, Reply { kind: Kind::Opening(Verdict::Early), accepted: 1, written: 24 });
+    assert_eq!(reply, opened(Verdict::Early, 1, 24, told(0, 13, 0)));
     let reply = front.open_with(PORT + 4, 7, &behind(&[]), b"x").unwrap();
-    assert_eq!(reply, Reply { kind: Kind::Opening(Verdict::Plain), accepted: 0, written: 36 });
+    assert_eq!(reply, opened(Verdict::Plain, 0, 36, told(0, 13, 0)));
     assert_eq!(front.out[24..], fast_open(&right()));
 }
 
@@ -318,9 +327,10 @@ fn the_coding_setting_changes() {
         let pending = front.listener.pending();
         front.listener.settings(0, after).unwrap();
 
-        // What was opened stays as it is.
+        // What was opened stays as it is; its options are read as is set now.
+        let used = usize::from(after.codings == Codings::Both);
         let reply = front.open(PORT, 7, &right(), b"x").unwrap();
-        assert_eq!(reply, Reply { kind: Kind::Opening(Verdict::Repeat), accepted: 0, written: 24 });
+        assert_eq!(reply, opened(Verdict::Repeat, 0, 24, told(0, used, 0)));
         let accepted = u32::from(first == Verdict::Early);
         assert_eq!(front.acknowledgement(), 8 + accepted);
         let repeat = front.out;
@@ -339,6 +349,89 @@ fn the_coding_setting_changes() {
     assert_eq!(front.out[..24], SHORT);
 }
 
+/// Options that tell something of each sort: one is skipped in each coding before that with
+/// the cookie, one behind it, and the last byte breaks the reading off.
+fn telling(cookie: &[u8; 8]) -> Vec<u8> {
+    let before = [254, 6, 0xf9, 0x89, 0, 0, 34, 3, 0];
+    [&before[..], &[34, 10], cookie, &[34, 4, 0, 0, 5]].concat()
+}
+
+/// What is told of them under new only, and under both.
+const TOLD: [(Settings, Reading); 2] = [(SETTINGS, told(2, 10, 24)), (BOTH, told(3, 10, 24))];
+
+/// Options of which the same is told under either.
+const SAMPLES: [(&[u8], Reading); 5] = [
+    (&[34, 3, 0, 34, 2, 1, 1, 1], told(1, 4, 0)),
+    (&[2, 4, 5, 180, 34, 0, 1, 1], told(0, 0, 5)),
+    (&[1, 1, 1, 34], told(0, 0, 4)),
+    (&[0, 34, 3, 0], told(0, 0, 0)),
+    (&[], told(0, 0, 0)),
+];
+
+#[test]
+fn openings_tell() {
+    for (settings, reading) in TOLD {
+        let full = Settings { limit: 0, ..settings };
+        let off = Settings { on: false, ..settings };
+        for (settings, cookie, expected) in [
+            (settings, right(), opened(Verdict::Early, 1, 24, reading)),
+            (settings, [7; 8], opened(Verdict::Plain, 0, 36, reading)),
+            (full, right(), opened(Verdict::Plain, 0, 24, reading)),
+            (off, right(), opened(Verdict::Plain, 0, 24, reading)),
+        ] {
+            let mut front = Box64::with(settings);
+            assert_eq!(front.open_with(PORT, 7, &telling(&cookie), b"x"), Ok(expected), "{settings:?}");
+            let repeat = opened(Verdict::Repeat, 0, 24, reading);
+            assert_eq!(front.open_with(PORT, 7, &telling(&cookie), b"x"), Ok(repeat), "{settings:?}");
+        }
+        for (options, reading) in SAMPLES {
+            let mut front = Box64::with(settings);
+            for verdict in [Verdict::Plain, Verdict::Repeat] {
+                let reply = front.open_with(PORT, 7, options, b"").unwrap();
+                assert_eq!((reply.kind, reply.reading), (Kind::Opening(verdict), reading), "{options:?}");
+            }
+        }
+    }
+    // Before any settings Fast Open is off, and new only is read.
+    let mut front = Box64 { listener: Listener::start(&OWN, 443, &KEY).unwrap(), ..Box64::with(BOTH) };
+    let reply = front.open_with(PORT, 7, &telling(&right()), b"x");
+    assert_eq!(reply, Ok(opened(Verdict::Plain, 0, 24, told(2, 10, 24))));
+}
+
+#[test]
+fn a_repeat_tells_of_its_own_options() {
+    for (settings, reading) in TOLD {
+        let mut front = Box64::with(settings);
+        front.open(PORT, 7, &[], b"").unwrap();
+        assert_eq!(front.open_with(PORT, 7, &telling(&right()), b"").unwrap().reading, reading);
+        assert_eq!(front.open_with(PORT, 7, &[], b"").unwrap().reading, told(0, 0, 0));
+    }
+    // Under the setting of its own time.
+    let mut front = Box64::with(SETTINGS);
+    for (settings, reading) in [TOLD[0], TOLD[1], TOLD[0]] {
+        front.listener.settings(0, settings).unwrap();
+        assert_eq!(front.open_with(PORT, 7, &telling(&right()), b"").unwrap().reading, reading);
+    }
+}
+
+#[test]
+fn nothing_is_told_without_syn() {
+    for settings in [SETTINGS, BOTH, Settings { on: false, ..BOTH }] {
+        for (flags, kind) in [
+            (ACK, Kind::Completion),
+            (ACK | FIN, Kind::Completion),
+            (RST, Kind::Reset),
+            (RST | ACK | FIN, Kind::Reset),
+        ] {
+            let mut front = Box64::with(settings);
+            front.open_with(PORT, 7, &telling(&[7; 8]), b"").unwrap();
+            let reply = front.segment(0, 0, &seg(PORT, 8, 1001, flags, &telling(&right()), b"x"));
+            assert_eq!(reply, Ok(Reply::bare(kind)));
+            assert_eq!(Reply::bare(kind).reading, told(0, 0, 0));
+        }
+    }
+}
+
 #[test]
 fn second_twin_is_no_repeat() {
     let mut front = Box64::with(SETTINGS);
@@ -351,7 +444,7 @@ fn second_twin_is_no_repeat() {
     assert_eq!(accepted_part(&second, reply.accepted), b"second girl");
     // The repeat answers from the stored numbers.
     let reply = front.segment(0, 9, &first).unwrap();
-    assert_eq!(reply, Reply { kind: Kind::Opening(Verdict::Repeat), accepted: 0, written: 24 });
+    assert_eq!(reply, opened(Verdict::Repeat, 0, 24, told(0, 1, 0)));
     assert_eq!(front.out[4..12], [0, 0, 0, 5, 0, 0, 0, 88]);
     assert_eq!(front.listener.pending(), 2);
 }
@@ -373,21 +466,21 @@ fn keys_turn() {
         front.listener.key(0, &other).unwrap();
         // Under the previous key: early, and replaced at once.
         let reply = front.open(PORT, 1, &right(), b"x").unwrap();
-        assert_eq!(reply, Reply { kind: Kind::Opening(Verdict::Early), accepted: 1, written: 36 });
+        assert_eq!(reply, opened(Verdict::Early, 1, 36, told(0, 1, 0)));
         assert_eq!(front.out[24..], coded(coding, &cookie(&other, &PEER)));
         let reply = front.open(PORT + 1, 1, &cookie(&other, &PEER), b"x").unwrap();
         assert_eq!((reply.accepted, reply.written), (1, 24));
         // Two keys back: wrong, so plain with a new cookie.
         front.listener.key(0, &third).unwrap();
         let reply = front.open(PORT + 2, 1, &right(), b"x").unwrap();
-        assert_eq!(reply, Reply { kind: Kind::Opening(Verdict::Plain), accepted: 0, written: 36 });
+        assert_eq!(reply, opened(Verdict::Plain, 0, 36, told(0, 1, 0)));
         assert_eq!(front.out[24..], coded(coding, &cookie(&third, &PEER)));
         // A request too; with no option, or when off, there is no cookie.
         assert_eq!(front.open(PORT + 3, 1, &[], b"x").unwrap().written, 36);
         assert_eq!(front.segment(0, 1, &seg(PORT + 4, 1, 0, SYN, &[], b"x")).unwrap().written, 24);
         front.listener.settings(0, Settings { on: false, ..settings }).unwrap();
         let reply = front.open(PORT + 5, 1, &cookie(&third, &PEER), b"x").unwrap();
-        assert_eq!(reply, Reply { kind: Kind::Opening(Verdict::Plain), accepted: 0, written: 24 });
+        assert_eq!(reply, opened(Verdict::Plain, 0, 24, told(0, 1, 0)));
     }
 }
 
@@ -587,15 +680,19 @@ impl Caller {
     ) -> Result<u32, Refusal> {
         let from = server(n);
         let segment = answer(&from, &PEER, options, acknowledged);
-        self.client.answer(time, &attempt(&from, 443), sent, &segment, self.codings)
+        let learnt = self.client.answer(time, &attempt(&from, 443), sent, &segment, self.codings);
+        learnt.map(|learnt| learnt.acknowledged)
     }
 }
 
 fn answer(from: &[u8], to: &[u8], options: &[u8], acknowledgement: u32) -> Vec<u8> {
+    flagged_answer(SYN | ACK, from, to, options, acknowledgement)
+}
+
+fn flagged_answer(flags: u8, from: &[u8], to: &[u8], options: &[u8], acknowledgement: u32) -> Vec<u8> {
     let mut segment = vec![0; 20];
     segment.extend_from_slice(options);
-    let header =
-        Header { source_port: 443, destination_port: PORT, sequence: 5, acknowledgement, flags: SYN | ACK };
+    let header = Header { source_port: 443, destination_port: PORT, sequence: 5, acknowledgement, flags };
     wire::finish(&mut segment, &header, options.len(), from, to);
     segment
 }
@@ -702,6 +799,22 @@ fn answers_are_checked() {
     assert_eq!(Client::never_started().failed(0, &to, 1), Err(Refusal::NeverStarted));
 }
 
+#[test]
+fn answers_tell() {
+    let from = server(1);
+    for (settings, reading) in TOLD {
+        let area = telling(&[3; 8]);
+        for (options, reading) in SAMPLES.into_iter().chain([(&area[..], reading)]) {
+            for (sent, acknowledged) in [(0, 0), (5, 0), (5, 5)] {
+                let mut client = Client::start(4).unwrap();
+                let segment = answer(&from, &PEER, options, acknowledged);
+                let learnt = client.answer(0, &attempt(&from, 443), sent, &segment, settings.codings);
+                assert_eq!(learnt, Ok(Learnt { acknowledged, reading }), "{options:?}");
+            }
+        }
+    }
+}
+
 /// What follows the size in an opening with this cookie.
 fn early(cookie: &[u8]) -> Vec<u8> {
     [fast_open(cookie), vec![7; 10]].concat()
@@ -802,8 +915,8 @@ fn handshake(caller: &mut Caller, front: &mut Box64, own_port: u16) -> (Option<V
     let reply = front.segment(0, 1000, &caller.out[..opened.written]);
     let written = reply.unwrap().written;
     let answer = &front.out[..written];
-    let acknowledged = caller.client.answer(0, &attempt, opened.sent as u32, answer, caller.codings);
-    (verdict(reply), acknowledged.unwrap())
+    let learnt = caller.client.answer(0, &attempt, opened.sent as u32, answer, caller.codings);
+    (verdict(reply), learnt.unwrap().acknowledged)
 }
 
 /// An opening that asks in the older coding, and its answer shown to a client that reads
@@ -814,7 +927,9 @@ fn asked_in_the_older_coding(codings: Codings) -> (Caller, Box64) {
     let attempt = Attempt { ours: 7, ..attempt(&OWN, 443) };
     let reply = front.open(PORT, attempt.ours, &[], &[]).unwrap();
     assert_eq!(front.out[..reply.written], OLDER_COOKIE);
-    assert_eq!(caller.client.answer(0, &attempt, 0, &front.out, codings), Ok(0));
+    let learnt = caller.client.answer(0, &attempt, 0, &front.out, codings);
+    let used = if codings == Codings::Both { 5 } else { 0 };
+    assert_eq!(learnt, Ok(Learnt { acknowledged: 0, reading: told(0, used, 0) }));
     (caller, front)
 }
 
@@ -932,6 +1047,10 @@ fn bans_make_way() {
 
 // The scripts
 
+fn hex(bytes: &[u8]) -> String {
+    bytes.iter().map(|byte| format!("{byte:02x}")).collect()
+}
+
 fn answers(session: &mut dyn Session, text: &[u8]) -> Vec<String> {
     let mut printed = Vec::new();
     script::run(session, text, &mut printed).unwrap();
@@ -972,11 +1091,11 @@ fn lines() {
     }
     text.extend_from_slice(b"resend 0 C0000201 00001 2048");
     let printed = answers(&mut ListenerSession::new(), &text);
-    assert_eq!(printed[0], "13 - - 0 0 0 - - kept");
-    assert_eq!(printed[1..3], ["0 - - 0 0 0 - - kept", "0 - - 0 0 0 - - kept"]);
-    assert_eq!(printed[3], "12 - - 0 0 0 - - kept");
+    assert_eq!(printed[0], "13 - - 0 0 0 - - kept 0 0 0");
+    assert_eq!(printed[1..3], ["0 - - 0 0 0 - - kept 0 0 0", "0 - - 0 0 0 - - kept 0 0 0"]);
+    assert_eq!(printed[3], "12 - - 0 0 0 - - kept 0 0 0");
     assert!(printed[4..26].iter().all(|line| line == "bad line"), "{printed:?}");
-    assert_eq!(printed[26..], ["9 - - 0 0 0 - - kept"]);
+    assert_eq!(printed[26..], ["9 - - 0 0 0 - - kept 0 0 0"]);
 }
 
 /// Words behind a line that takes the coding setting, and what it is then; `None` for a bad line.
@@ -1007,7 +1126,11 @@ fn coding_words_of_settings() {
     for (word, codings) in CODING_WORDS {
         let line = format!("settings 0 on 8 1460 1000 1460{word}");
         let printed = session.line(line.as_bytes()).unwrap();
-        assert_eq!(printed, if codings.is_some() { "0 - - 0 0 0 - - kept" } else { "bad line" }, "{line}");
+        assert_eq!(
+            printed,
+            if codings.is_some() { "0 - - 0 0 0 - - kept 0 0 0" } else { "bad line" },
+            "{line}"
+        );
         last = codings.unwrap_or(last);
         let expected = Settings { hold: 1000, codings: last, ..SETTINGS };
         assert_eq!(session.listener.front().unwrap().current_settings(), expected, "{line}");
@@ -1029,14 +1152,18 @@ fn coding_words_of_settings() {
 
 #[test]
 fn coding_words_of_answers() {
-    let segment = answer(&server(1), &PEER, &older(&[3; 8]), 8);
-    let hex: String = segment.iter().map(|byte| format!("{byte:02x}")).collect();
+    let hex = hex(&answer(&server(1), &PEER, &older(&[3; 8]), 8));
     for (word, codings) in CODING_WORDS {
         let mut session = ClientSession::new();
         session.line(b"start 4").unwrap();
         let line = format!("answer 0 c0000201 40000 0a000001 443 7 5 {hex}{word}");
         let printed = session.line(line.as_bytes()).unwrap();
-        assert_eq!(printed, if codings.is_some() { "0 0 0 - kept" } else { "bad line" }, "{line}");
+        let expected = match codings {
+            Some(Codings::New) => "0 0 0 - kept 0 0 0",
+            Some(Codings::Both) => "0 0 0 - kept 0 1 0",
+            None => "bad line",
+        };
+        assert_eq!(printed, expected, "{line}");
         let memory = session.client.memory().unwrap();
         let stored = if codings == Some(Codings::Both) { &[3; 8][..] } else { &[] };
         assert_eq!(memory.known(&server(1)).0, stored, "{line}");
@@ -1047,6 +1174,87 @@ fn coding_words_of_answers() {
     {
         assert_eq!(session.line(line.as_bytes()).unwrap(), "bad line", "{line}");
     }
+}
+
+/// The number that a line prints, and what its answer tells.
+fn tells(session: &mut dyn Session, line: &str) -> String {
+    let printed = session.line(line.as_bytes()).unwrap();
+    let words: Vec<&str> = printed.split(' ').collect();
+    format!("{}: {}", words[0], words[words.len() - 3..].join(" "))
+}
+
+#[test]
+fn lines_tell() {
+    let mut session = ListenerSession::new();
+    let mut check = |line: &str, expected: &str| assert_eq!(tells(&mut session, line), expected, "{line}");
+    let segment = |port: u16, flags: u8, sequence: u32| {
+        hex(&seg(port, sequence, 1001, flags, &telling(&right()), b"x"))
+    };
+    let line = |segment: String| format!("segment 0 c0000201 1000 36 {segment}");
+
+    check(&line(segment(PORT, SYN, 7)), "13: 0 0 0");
+    check("start c0000202 443 000102030405060708090a0b0c0d0e0f", "0: 0 0 0");
+    check(&line(segment(PORT, SYN, 7)), "0: 2 10 24");
+    check("settings 0 on 8 1460 1000 1460 both", "0: 0 0 0");
+    check(&line(segment(PORT, SYN, 7)), "0: 3 10 24");
+    check(&line(segment(PORT + 1, SYN, 7)), "0: 3 10 24");
+    for (flags, sequence, number) in [(SYN, 8, 7), (SYN | ACK, 7, 6), (ACK, 7, 10), (RST, 7, 10)] {
+        check(&line(segment(PORT, flags, sequence)), &format!("{number}: 0 0 0"));
+    }
+    let opening = segment(PORT + 2, SYN, 7);
+    for (line, number) in [
+        (format!("segment 281474976710657 c0000201 1000 36 {opening}"), 5),
+        (format!("segment 0 c00002 1000 36 {opening}"), 2),
+        (format!("segment 0 c0000201 1000 35 {opening}"), 11),
+        (format!("segment 0 c0000201 1000 36 {}", &opening[..42]), 1),
+        (format!("segment 0 c0000201 1000 36 {opening}00"), 3),
+        (line(segment(PORT + 2, ACK, 8)), 9),
+    ] {
+        check(&line, &format!("{number}: 0 0 0"));
+    }
+    check("resend 0 c0000201 40000 36", "0: 0 0 0");
+    check("resend 0 c0000201 40002 36", "9: 0 0 0");
+    check("key 0 000102030405060708090a0b0c0d0e0f", "0: 0 0 0");
+    check("abandon 0 c0000201 40000", "0: 0 0 0");
+    check(&line(segment(PORT + 1, ACK, 9)), "0: 0 0 0");
+    check("close 0 c0000201 40001", "0: 0 0 0");
+    check("close 0 c0000201 40001", "9: 0 0 0");
+    // A full table tells nothing of the opening that it has no room for.
+    for port in 0..64 {
+        check(&line(segment(port, SYN, 7)), "0: 3 10 24");
+    }
+    check(&line(opening), "8: 0 0 0");
+}
+
+#[test]
+fn lines_of_the_client_tell() {
+    let mut session = ClientSession::new();
+    let mut check = |line: &str, expected: &str| assert_eq!(tells(&mut session, line), expected, "{line}");
+    let [segment, opening] =
+        [SYN | ACK, SYN].map(|flags| hex(&flagged_answer(flags, &server(1), &PEER, &telling(&[3; 8]), 8)));
+    let answer = format!("answer 0 c0000201 40000 0a000001 443 7 5 {segment}");
+    check(&answer, "13: 0 0 0");
+    check("start 5", "2: 0 0 0");
+    check("start 4", "0: 0 0 0");
+    check(&answer, "0: 2 10 24");
+    check(&format!("{answer} new"), "0: 2 10 24");
+    check(&format!("{answer} both"), "0: 3 10 24");
+    for (line, number) in [
+        (format!("answer 281474976710657 c0000201 40000 0a000001 443 7 5 {segment} both"), 5),
+        (format!("answer 0 c00002 40000 0a000001 443 7 5 {segment} both"), 2),
+        (format!("answer 0 c0000201 40000 0a000001 443 7 5 {} both", &segment[..42]), 1),
+        (format!("answer 0 c0000201 40000 0a000001 443 7 5 {segment}01 both"), 3),
+        (format!("answer 0 c0000201 40000 0a000001 444 7 5 {segment} both"), 4),
+        (format!("answer 0 c0000201 40000 0a000001 443 7 5 {opening} both"), 6),
+        (format!("answer 0 c0000201 40000 0a000001 443 7 1461 {segment} both"), 12),
+        (format!("answer 0 c0000201 40000 0a000001 443 8 5 {segment} both"), 10),
+    ] {
+        check(&line, &format!("{number}: 0 0 0"));
+    }
+    check("open 0 c0000201 40000 0a000001 443 7 1460 1504 0102", "0: 0 0 0");
+    check("open 0 c0000201 40000 0a000001 443 7 1460 1503 0102", "11: 0 0 0");
+    check("failed 0 0a000001 443", "0: 0 0 0");
+    check("failed 0 0a0000 443", "2: 0 0 0");
 }
 
 #[test]
@@ -1061,7 +1269,7 @@ fn line_lengths() {
     let mut text = [line(8192), line(8193), line(30_000)].concat();
     text.extend_from_slice(&[b'#'; 30_000]);
     let printed = answers(&mut ListenerSession::new(), &text);
-    assert_eq!(printed, ["13 - - 0 0 0 - - kept", "bad line", "bad line"]);
+    assert_eq!(printed, ["13 - - 0 0 0 - - kept 0 0 0", "bad line", "bad line"]);
 }
 
 #[test]
@@ -1071,7 +1279,14 @@ fn refused_start_replaces() {
     let printed = answers(&mut ClientSession::new(), text);
     assert_eq!(
         printed,
-        ["0 0 0 - kept", "2 0 0 - kept", "13 0 0 - kept", "0 0 0 - kept", "2 0 0 - kept", "0 0 0 - kept"]
+        [
+            "0 0 0 - kept 0 0 0",
+            "2 0 0 - kept 0 0 0",
+            "13 0 0 - kept 0 0 0",
+            "0 0 0 - kept 0 0 0",
+            "2 0 0 - kept 0 0 0",
+            "0 0 0 - kept 0 0 0"
+        ]
     );
     let text = b"start 01020304 1 00000000000000000000000000000000\nstart 01020304 1 -\nkey 0 -\nstart - 1 -";
     let printed = answers(&mut ListenerSession::new(), text);
@@ -1096,6 +1311,7 @@ fn generated_scripts_cover_everything() {
             assert!(summary.verdicts[verdict] >= 80, "seed {seed} {verdict}");
         }
         assert!(summary.numbers[&0] > 1500 && summary.bad_lines >= 50);
+        assert!(summary.skipped >= 50 && summary.used >= 500 && summary.broken >= 100, "seed {seed}");
         assert_eq!((summary.changed, summary.strange), (0, 0));
 
         let text = generate::client(seed, 3000);
@@ -1106,6 +1322,7 @@ fn generated_scripts_cover_everything() {
             assert!(summary.numbers[&number] >= 20, "seed {seed} number {number}");
         }
         assert!(summary.numbers[&0] > 1500 && summary.bad_lines >= 50);
+        assert!(summary.skipped >= 50 && summary.used >= 500 && summary.broken >= 100, "seed {seed}");
         assert_eq!((summary.changed, summary.strange), (0, 0));
     }
 }
@@ -1141,15 +1358,24 @@ fn unhex(word: &str) -> Vec<u8> {
     (0..digits.len()).step_by(2).map(|at| u8::from_str_radix(&digits[at..at + 2], 16).unwrap()).collect()
 }
 
-/// Runs a generated script and shows each call that is done: its words, the answer's and what
-/// there is after it.
-fn each_done<S: Session>(mut session: S, text: &[u8], mut show: impl FnMut(&[&str], &[&str], &S)) {
+/// Runs a generated script and shows each call: its words, the answer's and what there is
+/// after it.
+fn each_call<S: Session>(mut session: S, text: &[u8], mut show: impl FnMut(&[&str], &[&str], &S)) {
     for line in text.split(|&b| b == b'\n') {
-        let Some(printed) = session.line(line).filter(|printed| printed.starts_with("0 ")) else { continue };
+        let Some(printed) = session.line(line).filter(|printed| printed != "bad line") else { continue };
         let words: Vec<&str> = std::str::from_utf8(line).unwrap().split(' ').collect();
         let printed: Vec<&str> = printed.split(' ').collect();
         show(&words, &printed, &session);
     }
+}
+
+/// Shows only calls that are done.
+fn each_done<S: Session>(session: S, text: &[u8], mut show: impl FnMut(&[&str], &[&str], &S)) {
+    each_call(session, text, |words, printed, session| {
+        if printed[0] == "0" {
+            show(words, printed, session);
+        }
+    });
 }
 
 fn each_client_done(seed: u64, mut show: impl FnMut(&[&str], &[&str], &Memory)) {
@@ -1429,5 +1655,134 @@ fn generated_scripts_spell_the_coding() {
         for tail in [" old", " NEW", " ", " both both"] {
             assert!(tails[tail] >= 1, "{tail:?}");
         }
+    }
+}
+
+/// The sorts of things that a reading can tell, and whether it does.
+fn sorts(area: &[u8], codings: Codings) -> [(&'static str, bool); 10] {
+    let reading = |area, codings| wire::read_options(area, codings).reading;
+    let Reading { skipped, used, broken } = reading(area, codings);
+    let before = reading(&area[..used.saturating_sub(1)], codings).skipped;
+    [
+        ("anything", skipped + used + broken > 0),
+        ("skipped, none used", skipped > 0 && used == 0),
+        ("broken, none used", broken > 0 && used == 0),
+        ("several skipped", skipped > 1),
+        ("skipped before", before > 0),
+        ("skipped behind", used > 0 && skipped > before),
+        ("skipped, then broken", skipped > 0 && broken > 0),
+        ("used, not first", used > 1),
+        ("used, then broken", used > 0 && broken > 0),
+        ("older skipped", skipped > reading(area, Codings::New).skipped),
+    ]
+}
+
+/// How often each sort came up, by the sort of call, of which some must not tell.
+#[derive(Default)]
+struct Tellings(BTreeMap<String, BTreeMap<&'static str, usize>>);
+
+impl Tellings {
+    fn add(&mut self, teller: String, area: &[u8], codings: Codings) {
+        let met = self.0.entry(teller).or_default();
+        for (sort, is_met) in sorts(area, codings) {
+            *met.entry(sort).or_default() += usize::from(is_met);
+        }
+    }
+
+    /// The expected sorts came up at least so often.
+    fn check(&self, teller: &str, least: usize, expected: impl Fn(&str) -> bool) {
+        let met = self.0.get(teller).unwrap_or_else(|| panic!("nothing of {teller}"));
+        for (sort, &count) in met.iter().filter(|(sort, _)| expected(sort)) {
+            assert!(count >= least, "{teller}, {sort}: {count}");
+        }
+    }
+}
+
+/// The words that tell of a reading.
+fn words_of(reading: Reading) -> [String; 3] {
+    [reading.skipped, reading.used, reading.broken].map(|number| number.to_string())
+}
+
+#[test]
+fn generated_segments_tell() {
+    let mut tellings = Tellings::default();
+    for seed in 1..=4 {
+        each_call(ListenerSession::new(), &generate::listener(seed, 3000), |words, printed, session| {
+            let told = &printed[9..];
+            if words[0] != "segment" || printed[1] != "opening" {
+                assert_eq!(told, ["0"; 3], "seed {seed}");
+            }
+            let Some(front) = session.listener.front().filter(|_| words[0] == "segment") else { return };
+            let Settings { on, codings, .. } = front.current_settings();
+            let segment = unhex(words[5]);
+            let Some(area) = wire::Segment::parse(&segment).map(|segment| segment.options()) else { return };
+            let teller = match (printed[1], printed[2]) {
+                ("opening", verdict) => {
+                    assert_eq!(told, words_of(wire::read_options(area, codings).reading), "seed {seed}");
+                    format!("{verdict} {} {codings:?}", if on { "on" } else { "off" })
+                }
+                ("-", _) => format!("refused {}", printed[0]),
+                (kind, _) => kind.to_string(),
+            };
+            tellings.add(teller, area, codings);
+        });
+    }
+    for codings in ["New", "Both"] {
+        let possible = |sort: &str| codings == "Both" || sort != "older skipped";
+        for teller in ["plain on", "plain off", "repeat on", "repeat off"] {
+            tellings.check(&format!("{teller} {codings}"), 1, possible);
+        }
+        let with_one_used = |sort: &str| possible(sort) && !sort.contains("none");
+        tellings.check(&format!("early on {codings}"), 5, with_one_used);
+    }
+    for teller in ["completion", "reset"] {
+        tellings.check(teller, 3, |_| true);
+    }
+    for number in [2, 3, 4, 5, 6, 7, 8, 9, 10, 11] {
+        tellings.check(&format!("refused {number}"), 25, |sort| sort == "anything");
+    }
+}
+
+#[test]
+fn generated_answers_tell() {
+    let mut tellings = Tellings::default();
+    for seed in 1..=4 {
+        each_call(ClientSession::new(), &generate::client(seed, 3000), |words, printed, _| {
+            let told = &printed[5..];
+            if words[0] != "answer" || printed[0] != "0" {
+                assert_eq!(told, ["0"; 3], "seed {seed}");
+            }
+            if words[0] != "answer" {
+                return;
+            }
+            let (segment, codings) = (unhex(words[8]), codings_given(words));
+            let Some(area) = wire::Segment::parse(&segment).map(|segment| segment.options()) else { return };
+            let teller = if printed[0] == "0" {
+                assert_eq!(told, words_of(wire::read_options(area, codings).reading), "seed {seed}");
+                format!("{codings:?}")
+            } else {
+                format!("refused {}", printed[0])
+            };
+            tellings.add(teller, area, codings);
+        });
+    }
+    tellings.check("New", 20, |sort| sort != "older skipped");
+    tellings.check("Both", 20, |_| true);
+    for number in [2, 3, 4, 5, 6, 10, 12] {
+        tellings.check(&format!("refused {number}"), 25, |sort| sort == "anything");
+    }
+}
+
+#[test]
+fn generated_readings_break_off_everywhere() {
+    let [mut openings, mut answers] = [[0; 41]; 2];
+    for seed in 1..=4 {
+        each_done(ListenerSession::new(), &generate::listener(seed, 3000), |_, printed, _| {
+            openings[printed[11].parse::<usize>().unwrap()] += 1;
+        });
+        each_client_done(seed, |_, printed, _| answers[printed[7].parse::<usize>().unwrap()] += 1);
+    }
+    for place in 1..=40 {
+        assert!(openings[place] >= 1 && answers[place] >= 1, "{place}: {openings:?} {answers:?}");
     }
 }

@@ -5,7 +5,7 @@ use std::hint::black_box;
 
 use crate::aes::Schedule;
 use crate::listener::{cookie, Kind, Listener, Reply, Settings, LEAST_OUTPUT, SLOTS};
-use crate::wire::{self, Codings, Header, Refusal, ACK, SYN};
+use crate::wire::{self, Codings, Header, Reading, Refusal, ACK, SYN};
 
 const KEY: [u8; 16] = [0, 1, 2, 3, 4, 5, 6, 7, 8, 9, 10, 11, 12, 13, 14, 15];
 const NEXT_KEY: [u8; 16] = [16, 17, 18, 19, 20, 21, 22, 23, 24, 25, 26, 27, 28, 29, 30, 31];
@@ -94,6 +94,8 @@ fn options(count: u64) -> u64 {
         if let Some(option) = read.fast_open {
             digest = digest.wrapping_add((option.at + option.cookie.len()) as u64);
         }
+        let Reading { skipped, used, broken } = read.reading;
+        digest = digest.wrapping_add((skipped + used + broken) as u64);
     }
     digest
 }

@@ -200,10 +200,23 @@ pub struct FastOpen<'a> {
     pub cookie: &'a [u8],
 }
 
+/// What the reading of an option area met, whatever came of it. A place is that of a kind byte,
+/// counted from 1; 0 is none.
+#[derive(Clone, Copy, Debug, Default, PartialEq, Eq)]
+pub struct Reading {
+    /// How many Fast Open options have a length that doesn't count.
+    pub skipped: usize,
+    /// Where the Fast Open option that is used begins.
+    pub used: usize,
+    /// Where reading broke off, at a length that doesn't fit.
+    pub broken: usize,
+}
+
 #[derive(Clone, Copy, Debug, Default, PartialEq, Eq)]
 pub struct Options<'a> {
     pub mss: Option<u16>,
     pub fast_open: Option<FastOpen<'a>>,
+    pub reading: Reading,
 }
 
 /// Reads an option area up to its end, a kind 0, or the first option that doesn't fit.
@@ -211,36 +224,43 @@ pub struct Options<'a> {
 pub fn read_options(area: &[u8], codings: Codings) -> Options<'_> {
     let mut found = Options::default();
     let mut at = 0;
-    while at < area.len() {
-        match area[at] {
-            END_OF_LIST => break,
-            NO_OPERATION => {
-                at += 1;
-                continue;
-            }
-            _ => {}
+    while at < area.len() && area[at] != END_OF_LIST {
+        if area[at] == NO_OPERATION {
+            at += 1;
+            continue;
         }
-        let Some(&length) = area.get(at + 1) else { break };
-        let length = usize::from(length);
-        if length < 2 || length > area.len() - at {
+        let Some(option) = whole_option(&area[at..]) else {
+            found.reading.broken = at + 1;
             break;
-        }
-        let option = &area[at..at + length];
-        if let [MSS, 4, high, low] = *option {
-            found.mss = found.mss.or(Some(u16::from_be_bytes([high, low])));
-        } else if found.fast_open.is_none() {
-            found.fast_open = read_fast_open(option, at, codings);
-        }
-        at += length;
+        };
+        found.take(option, at, codings);
+        at += option.len();
     }
     found
 }
 
-/// The option that begins at `at`, if it is a Fast Open option that counts.
-fn read_fast_open(option: &[u8], at: usize, codings: Codings) -> Option<FastOpen<'_>> {
-    let coding = codings.coding(option)?;
-    let cookie = coding.cookie(option)?;
-    Some(FastOpen { coding, at: at + coding.prefix(), cookie })
+/// The option at the front of what is left of an area, unless its length doesn't fit there.
+fn whole_option(left: &[u8]) -> Option<&[u8]> {
+    let length = usize::from(*left.get(1)?);
+    left.get(..length).filter(|_| length >= 2)
+}
+
+impl<'a> Options<'a> {
+    /// Takes the whole option that begins at `at`; of those that count, the first of each sort.
+    fn take(&mut self, option: &'a [u8], at: usize, codings: Codings) {
+        if let [MSS, 4, high, low] = *option {
+            self.mss = self.mss.or(Some(u16::from_be_bytes([high, low])));
+        }
+        let Some(coding) = codings.coding(option) else { return };
+        match coding.cookie(option) {
+            None => self.reading.skipped += 1,
+            Some(cookie) if self.fast_open.is_none() => {
+                self.fast_open = Some(FastOpen { coding, at: at + coding.prefix(), cookie });
+                self.reading.used = at + 1;
+            }
+            Some(_) => {}
+        }
+    }
 }
 
 /// Plain sum of big-endian 16-bit words, an odd last byte padded with zero.
@@ -468,6 +488,121 @@ mod tests {
         assert_eq!(cookie(&[34, 6, 1, 2, 3]), None, "past the area");
         assert_eq!(cookie(&[1, 1, 1, 34]), None, "kind without a length");
         assert_eq!(read_options(&[], Codings::New), Options::default());
+    }
+
+    /// How many are skipped, where the one used begins, and where reading broke off.
+    fn told(area: &[u8], codings: Codings) -> [usize; 3] {
+        let Reading { skipped, used, broken } = read_options(area, codings).reading;
+        [skipped, used, broken]
+    }
+
+    #[test]
+    fn what_a_reading_tells() {
+        for (area, expected) in [
+            (&[34, 3, 0, 34, 2][..], [1, 4, 0]),
+            (&[2, 4, 5, 180, 34, 0], [0, 0, 5]),
+            (&[34], [0, 0, 1]),
+            // Kind 0 ends the list, and is no break.
+            (&[0, 34, 3, 0, 34, 2, 34], [0, 0, 0]),
+            (&[34, 2, 0, 34, 3, 0, 34], [0, 1, 0]),
+            (&[34, 3, 0, 0, 34], [1, 0, 0]),
+            (&[1, 0], [0, 0, 0]),
+            (&[], [0, 0, 0]),
+            // Kind 1 moves the places.
+            (&[1, 1, 1, 1], [0, 0, 0]),
+            (&[1, 34, 2], [0, 2, 0]),
+            (&[1, 34, 3, 1, 1, 34, 2, 1, 34], [1, 6, 9]),
+            // Skipped before the one used, behind it, or with none.
+            (&[34, 2, 34, 3, 0], [1, 1, 0]),
+            (&[34, 3, 0, 34, 4, 0, 0, 34, 2, 34, 5, 0, 0, 0], [3, 8, 0]),
+            (&[34, 3, 0, 34, 4, 0, 0], [2, 0, 0]),
+            // A second one that counts is neither skipped nor used.
+            (&[34, 2, 34, 2, 34, 6, 0, 0, 0, 0], [0, 1, 0]),
+            // Of any kind; earlier options stand.
+            (&[5], [0, 0, 1]),
+            (&[5, 0, 34, 2], [0, 0, 1]),
+            (&[5, 1, 34, 2], [0, 0, 1]),
+            (&[5, 5, 34, 2], [0, 0, 1]),
+            (&[2, 0, 34, 2], [0, 0, 1]),
+            (&[255, 255], [0, 0, 1]),
+            (&[34, 3, 0, 34, 2, 2], [1, 4, 6]),
+            (&[34, 2, 34, 4, 0, 0, 8, 10, 0], [1, 1, 7]),
+            // One whose own length doesn't fit is a break, not a skip.
+            (&[34, 3], [0, 0, 1]),
+            (&[34, 3, 0, 34, 6, 0, 0, 0], [1, 0, 4]),
+            (&[34, 2, 34, 1], [0, 1, 3]),
+            // The size is no Fast Open option, whatever its length.
+            (&[2, 3, 0, 2, 2, 34, 2], [0, 6, 0]),
+        ] {
+            for codings in [Codings::New, Codings::Both] {
+                assert_eq!(told(area, codings), expected, "{area:?}");
+            }
+        }
+    }
+
+    #[test]
+    fn what_a_reading_tells_of_the_older_coding() {
+        for (area, both, new_only) in [
+            (&[254, 6, 0xf9, 0x89, 0, 0, 34, 2][..], [1, 7, 0], [0, 7, 0]),
+            (&[254, 4, 0xf9, 0x89, 34, 2], [0, 1, 0], [0, 5, 0]),
+            (&[254, 5, 0xf9, 0x89, 0, 34, 3, 0, 254, 4, 0xf9, 0x89], [2, 9, 0], [1, 0, 0]),
+            (&[34, 2, 254, 6, 0xf9, 0x89, 0, 0, 34, 3, 0], [2, 1, 0], [1, 1, 0]),
+            // Another experiment's is no Fast Open option, nor one too short for the mark.
+            (&[254, 6, 0xf9, 0x88, 0, 0, 34, 2], [0, 7, 0], [0, 7, 0]),
+            (&[254, 3, 0xf9, 34, 2], [0, 4, 0], [0, 4, 0]),
+            (&[254, 2, 34, 2], [0, 3, 0], [0, 3, 0]),
+            (&[254, 2, 0xf9, 0x89, 34, 2], [0, 0, 3], [0, 0, 3]),
+            // A length that doesn't fit breaks off under either setting.
+            (&[254], [0, 0, 1], [0, 0, 1]),
+            (&[254, 1, 0xf9, 0x89], [0, 0, 1], [0, 0, 1]),
+            (&[254, 6, 0xf9, 0x89, 0], [0, 0, 1], [0, 0, 1]),
+            (&[254, 7, 0xf9, 0x89, 0, 0, 0, 254, 8, 0xf9, 0x89], [1, 0, 8], [0, 0, 8]),
+        ] {
+            assert_eq!(told(area, Codings::Both), both, "{area:?}");
+            assert_eq!(told(area, Codings::New), new_only, "{area:?}");
+        }
+        for codings in [Codings::New, Codings::Both] {
+            assert_eq!(told(&[34, 3, 0].repeat(13), codings), [13, 0, 0]);
+        }
+        let eight = [254, 5, 0xf9, 0x89, 0].repeat(8);
+        assert_eq!([told(&eight, Codings::Both), told(&eight, Codings::New)], [[8, 0, 0], [0; 3]]);
+    }
+
+    #[test]
+    fn every_length_at_every_place() {
+        let new: fn(usize) -> bool = |length| matches!(length, 2 | 6 | 8 | 10 | 12 | 14 | 16 | 18);
+        let older: fn(usize) -> bool = |length| matches!(length, 4 | 8 | 10 | 12 | 14 | 16 | 18 | 20);
+        // What an option begins with, the least length that makes it a Fast Open one under a
+        // setting, and which of its lengths count then.
+        for (kind, mark, codings, least, counts) in [
+            (34, &[][..], Codings::New, 2, new),
+            (34, &[], Codings::Both, 2, new),
+            (254, &[0xf9, 0x89], Codings::Both, 4, older),
+            (254, &[0xf9, 0x89], Codings::New, 41, older),
+            (254, &[0xf9, 0x88], Codings::Both, 41, older),
+            (253, &[0xf9, 0x89], Codings::Both, 41, older),
+        ] {
+            for (length, before) in (0..=41).flat_map(|length| (0..40).map(move |before| (length, before))) {
+                let mut option = [&[kind, length as u8], mark].concat();
+                // kind 1 inside it and behind it
+                option.truncate(length.max(2));
+                let mut area = [vec![1; before], option].concat();
+                area.resize(40, 1);
+                let place = before + 1;
+                let expected = match length {
+                    0 | 1 => [0, 0, place],
+                    _ if length > 40 - before => [0, 0, place],
+                    _ if length < least => [0; 3],
+                    _ if counts(length) => [0, place, 0],
+                    _ => [1, 0, 0],
+                };
+                assert_eq!(told(&area, codings), expected, "{kind} {length} at {place}");
+                if before > 0 {
+                    area[0] = 0;
+                    assert_eq!(told(&area, codings), [0; 3], "kind 0, then {kind} {length} at {place}");
+                }
+            }
+        }
     }
 
     #[test]

@@ -7,6 +7,7 @@ use segment::checksum::add_bytes;
 use segment::options::Codings;
 use segment::options::FastOpenOption;
 use segment::options::Mss;
+use segment::options::Remarks;
 use segment::options::read_options;
 use std::num::wrapping_add_u64;
 
@@ -113,13 +114,19 @@ fn cookie_part(fast: FastOpenOption) -> u64 {
     }
 }
 
+fn remarks_part(remarks: Remarks) -> u64 {
+    let places = wrapping_add_u64(remarks.used as u64, remarks.broken as u64);
+    wrapping_add_u64(remarks.skipped as u64, places)
+}
+
 // What is read of an area, in one number.
 fn add_options(digest: u64, area: &[u8; 32]) -> u64 {
     let found = read_options(Codings::NewOnly, area);
     let options = found.options;
     let mss = options.mss;
     let fast = options.fast;
-    wrapping_add_u64(digest, wrapping_add_u64(mss_part(mss), cookie_part(fast)))
+    let counted = wrapping_add_u64(mss_part(mss), cookie_part(fast));
+    wrapping_add_u64(digest, wrapping_add_u64(counted, remarks_part(found.remarks)))
 }
 
 // An area of five options and padding, with another segment size each turn.

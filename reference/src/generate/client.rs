@@ -2,7 +2,8 @@
 
 use super::line::Line;
 use super::segment::{
-    area_with, counted, experiment_area, noise, other_experiment, some_coding, wild_area, Plan, Sum,
+    area_with, counted, experiment_area, noise, other_experiment, some_coding, telling_area, wild_area, Plan,
+    Sum,
 };
 use super::{Rng, Script};
 use crate::client::BAN_MS;
@@ -309,6 +310,9 @@ impl Maker {
         }
         if rng.percent(7) {
             return experiment_area(rng, &cookie);
+        }
+        if rng.percent(12) {
+            return telling_area(rng, &cookie, codings);
         }
         let [request, cookie] = [&[], &cookie[..]].map(|cookie| some_coding(rng, codings).option(cookie));
         let mut wanted = Vec::new();

@@ -2,7 +2,8 @@
 
 use super::line::Line;
 use super::segment::{
-    area_with, counted, experiment_area, noise, some_coding, wild_area, Plan, Sum, CODINGS, NUDGES,
+    area_with, counted, experiment_area, noise, some_coding, telling_area, wild_area, Plan, Sum, CODINGS,
+    NUDGES,
 };
 use super::Script;
 use crate::aes::Schedule;
@@ -29,10 +30,10 @@ struct Theme {
     holds: &'static [u32],
     /// Percent of calls that are damaged.
     damage: u64,
-    /// Weight of right cookies among openings; all else weighs 80.
+    /// Weight of right cookies among openings; all else weighs 100.
     right: u64,
     /// Weights of the actions, in the order of `Maker::act_once`.
-    actions: [u64; 14],
+    actions: [u64; 15],
     /// The usual longest step in time, and a rare longer one.
     step: u64,
     leap: u64,
@@ -42,42 +43,42 @@ struct Theme {
 }
 
 #[rustfmt::skip]
-//                     open again compl reset aband resend close settings key noise kinds twins hold turn
+//                     open again compl reset aband resend close settings key noise kinds twins hold turn tell
 const THEMES: [Theme; 7] = [
     // a bit of everything
     Theme {
-        calls: 300, addresses: 5, ports: 12, limits: &[3, 8, 16, 64], holds: &[0, 100, 1000, 65_535], damage: 18, right: 80,
-        actions: [30, 12, 16, 10, 5, 6, 9, 3, 2, 3, 3, 2, 5, 1], step: 20, leap: 3000, near_last_time: false, brim: false,
+        calls: 300, addresses: 5, ports: 12, limits: &[3, 8, 16, 64], holds: &[0, 100, 1000, 65_535], damage: 18, right: 100,
+        actions: [30, 12, 16, 10, 5, 6, 9, 3, 2, 3, 3, 2, 5, 1, 2], step: 20, leap: 3000, near_last_time: false, brim: false,
     },
     // a full table
     Theme {
-        calls: 330, addresses: 6, ports: 60, limits: &[40, 63, 63, 64, 64], holds: &[50, 65_535], damage: 10, right: 520,
-        actions: [44, 12, 12, 8, 4, 8, 9, 1, 1, 1, 1, 2, 3, 1], step: 3, leap: 60, near_last_time: false, brim: true,
+        calls: 330, addresses: 6, ports: 60, limits: &[40, 63, 63, 64, 64], holds: &[50, 65_535], damage: 10, right: 650,
+        actions: [44, 12, 12, 8, 4, 8, 9, 1, 1, 1, 1, 2, 3, 1, 2], step: 3, leap: 60, near_last_time: false, brim: true,
     },
     // resets and their holds
     Theme {
-        calls: 300, addresses: 3, ports: 8, limits: &[2, 3, 5, 10], holds: &[0, 1, 2, 10, 40], damage: 12, right: 155,
-        actions: [36, 9, 6, 24, 5, 4, 4, 5, 1, 1, 1, 1, 12, 1], step: 6, leap: 50, near_last_time: false, brim: false,
+        calls: 300, addresses: 3, ports: 8, limits: &[2, 3, 5, 10], holds: &[0, 1, 2, 10, 40], damage: 12, right: 195,
+        actions: [36, 9, 6, 24, 5, 4, 4, 5, 1, 1, 1, 1, 12, 1, 2], step: 6, leap: 50, near_last_time: false, brim: false,
     },
     // keys that turn
     Theme {
-        calls: 260, addresses: 2, ports: 30, limits: &[20, 64], holds: &[0, 5], damage: 12, right: 55,
-        actions: [42, 4, 12, 8, 8, 3, 10, 2, 14, 1, 1, 1, 3, 1], step: 9, leap: 90, near_last_time: false, brim: false,
+        calls: 260, addresses: 2, ports: 30, limits: &[20, 64], holds: &[0, 5], damage: 12, right: 70,
+        actions: [42, 4, 12, 8, 8, 3, 10, 2, 14, 1, 1, 1, 3, 3, 2], step: 9, leap: 90, near_last_time: false, brim: false,
     },
     // pending about the limit
     Theme {
-        calls: 260, addresses: 3, ports: 10, limits: &[0, 1, 2, 3], holds: &[0, 30, 300], damage: 12, right: 155,
-        actions: [36, 8, 10, 12, 8, 4, 8, 9, 2, 1, 1, 2, 5, 1], step: 10, leap: 300, near_last_time: false, brim: false,
+        calls: 260, addresses: 3, ports: 10, limits: &[0, 1, 2, 3], holds: &[0, 30, 300], damage: 12, right: 195,
+        actions: [36, 8, 10, 12, 8, 4, 8, 9, 2, 1, 1, 2, 5, 1, 2], step: 10, leap: 300, near_last_time: false, brim: false,
     },
     // the end of time
     Theme {
-        calls: 170, addresses: 3, ports: 9, limits: &[4, 64], holds: &[10, 1000, 65_535], damage: 20, right: 130,
-        actions: [34, 8, 10, 18, 4, 4, 6, 3, 2, 1, 1, 2, 5, 1], step: 500, leap: 20_000, near_last_time: true, brim: false,
+        calls: 170, addresses: 3, ports: 9, limits: &[4, 64], holds: &[10, 1000, 65_535], damage: 20, right: 160,
+        actions: [34, 8, 10, 18, 4, 4, 6, 3, 2, 1, 1, 2, 5, 1, 2], step: 500, leap: 20_000, near_last_time: true, brim: false,
     },
     // hostile
     Theme {
-        calls: 260, addresses: 4, ports: 6, limits: &[2, 8, 64], holds: &[0, 7, 700], damage: 36, right: 80,
-        actions: [24, 10, 12, 10, 5, 5, 6, 4, 3, 12, 12, 2, 4, 1], step: 8, leap: 500, near_last_time: false, brim: false,
+        calls: 260, addresses: 4, ports: 6, limits: &[2, 8, 64], holds: &[0, 7, 700], damage: 36, right: 100,
+        actions: [24, 10, 12, 10, 5, 5, 6, 4, 3, 12, 12, 2, 4, 1, 2], step: 8, leap: 500, near_last_time: false, brim: false,
     },
 ];
 
@@ -116,7 +117,7 @@ impl Maker {
             if !fresh || self.script.rng.percent(50) {
                 self.refused_start();
             }
-            for _ in 0..self.script.rng.within(2, 6) {
+            for _ in 0..self.script.rng.within(3, 7) {
                 self.act(theme);
             }
         }
@@ -225,7 +226,8 @@ impl Maker {
             10 => self.kinds(theme),
             11 => self.twins(theme),
             12 => self.hold(theme),
-            _ => self.turn_codings(theme),
+            13 => self.turn_codings(theme),
+            _ => self.tell(theme),
         }
     }
 
@@ -331,7 +333,7 @@ impl Maker {
         let back = |steps: usize| self.keys.iter().rev().nth(steps).copied().unwrap_or(present);
         let mut offered = cookie(&present, source).to_vec();
         let rng = &mut self.script.rng;
-        match rng.weighted(&[theme.right, 14, 8, 10, 5, 4, 3, 5, 6, 8, 18]) {
+        match rng.weighted(&[theme.right, 22, 8, 12, 5, 4, 3, 5, 5, 5, 14, 17]) {
             0 => {}
             1 => offered = cookie(&back(1), source).to_vec(),
             2 => offered = cookie(&back(2), source).to_vec(),
@@ -348,7 +350,8 @@ impl Maker {
             }
             8 => return area_with(rng, &[wire::mss_option(1460).to_vec()]),
             9 => return wild_area(rng, &offered),
-            _ => return experiment_area(rng, &offered),
+            10 => return experiment_area(rng, &offered),
+            _ => return telling_area(rng, &offered, codings),
         }
         let fast_open = some_coding(rng, codings).option(&offered);
         let mut wanted = vec![wire::mss_option(rng.next() as u16).to_vec(), fast_open];
@@ -476,6 +479,10 @@ impl Maker {
             2 => plan.sequence = plan.sequence.wrapping_sub(1),
             _ => {}
         }
+        if rng.percent(20) {
+            let source = plan.source.clone();
+            plan.options = self.options(theme, &source);
+        }
         self.segment(theme, plan);
     }
 
@@ -556,12 +563,53 @@ impl Maker {
         let time = self.time(theme);
         self.set(time, &settings);
         self.segment(theme, plan.clone());
-        let opened = |slot: &Slot| slot.port() == port && slot.address(source.len()) == source;
-        if let Some(slot) = self.some_slot(opened) {
+        if let Some(slot) = self.slot_of(&plan) {
             self.on_name(theme, "resend", &slot);
         }
         plan.source_port = self.some_port(theme);
         self.segment(theme, plan);
+    }
+
+    /// A connection of which every segment has options that tell: its opening and repeats,
+    /// perhaps with Fast Open off, and then a completion or a reset, of which nothing is told.
+    fn tell(&mut self, theme: &Theme) {
+        let Some(front) = self.script.session.listener.front() else { return self.open(theme) };
+        let settings = front.current_settings();
+        let turned = self.script.rng.percent(50);
+        if turned {
+            let time = self.time(theme);
+            self.set(time, &Settings { on: false, ..settings });
+        }
+        let (source, port) = self.new_name(theme);
+        let mut plan = self.plan(&source, port);
+        plan.sequence = self.script.rng.sequence();
+        plan.payload = self.script.rng.payload();
+        for _ in 0..3 {
+            plan.options = self.telling_options(&source);
+            self.segment(theme, plan.clone());
+        }
+        if turned {
+            let time = self.time(theme);
+            self.set(time, &settings);
+        }
+        let Some(slot) = self.slot_of(&plan) else { return };
+        plan.flags = self.script.rng.pick(&[ACK, ACK | FIN, RST]);
+        plan.sequence = slot.expected().unwrap_or(slot.irs);
+        plan.acknowledgement = slot.iss.wrapping_add(1);
+        plan.options = self.telling_options(&source);
+        self.segment(theme, plan);
+    }
+
+    fn telling_options(&mut self, source: &[u8]) -> Vec<u8> {
+        let offered = cookie(self.keys.last().unwrap_or(&[0; 16]), source);
+        let codings = self.codings();
+        telling_area(&mut self.script.rng, &offered, codings)
+    }
+
+    /// The slot of a plan's name.
+    fn slot_of(&mut self, plan: &Plan) -> Option<Slot> {
+        let family = self.family;
+        self.some_slot(|slot| slot.port() == plan.source_port && slot.address(family) == plan.source)
     }
 
     fn noise(&mut self, theme: &Theme) {

@@ -189,6 +189,25 @@ pub fn some_coding(rng: &mut Rng, codings: Codings) -> Coding {
     counted(rng, codings)
 }
 
+/// A Fast Open option of a length that counts: mostly with this cookie, or asking for one.
+fn fast_open(rng: &mut Rng, coding: Coding, cookie: &[u8]) -> Vec<u8> {
+    let none: &[u8] = &[];
+    coding.option(rng.pick(&[cookie, cookie, none]))
+}
+
+/// A Fast Open option of a length that doesn't count, mostly so short that several fit.
+fn skipped(rng: &mut Rng, coding: Coding) -> Vec<u8> {
+    let odd = 1 + 2 * rng.index(8);
+    let length = rng.pick(&[1, 1, 2, 2, 3, 5, odd, odd]);
+    coding.option(&rng.bytes(length))
+}
+
+/// A Fast Open option that is longer than any that counts.
+fn too_long(rng: &mut Rng, coding: Coding) -> Vec<u8> {
+    let length = 17 + rng.index(40 - coding.prefix() - 16);
+    coding.option(&rng.bytes(length))
+}
+
 /// An option of the experimental kind and this length with this mark, as far as it fits.
 fn experiment(rng: &mut Rng, mark: [u8; 2], length: usize) -> Vec<u8> {
     let mut option = [&[wire::EXPERIMENT, length as u8][..], &mark].concat();
@@ -235,10 +254,8 @@ pub fn experiment_area(rng: &mut Rng, cookie: &[u8]) -> Vec<u8> {
     };
     let mut options = vec![first];
     for _ in 0..rng.below(3) {
-        let none: &[u8] = &[];
-        let cookie = rng.pick(&[cookie, cookie, cookie, none]);
-        let coding = rng.pick(&CODINGS);
-        options.insert(rng.pick(&[0, 1, 1, 1]), coding.option(cookie));
+        let (place, coding) = (rng.pick(&[0, 1, 1, 1]), rng.pick(&CODINGS));
+        options.insert(place, fast_open(rng, coding, cookie));
     }
     let mut area = options.concat();
     if rng.percent(25) {
@@ -247,6 +264,71 @@ pub fn experiment_area(rng: &mut Rng, cookie: &[u8]) -> Vec<u8> {
         pad_in_front(&mut area);
     }
     area
+}
+
+/// An option area that is about what its reading tells: which options are skipped before and
+/// behind the one used, and where it ends. `cookie` is one that would be right.
+pub fn telling_area(rng: &mut Rng, cookie: &[u8], codings: Codings) -> Vec<u8> {
+    if rng.percent(50) {
+        return ending_area(rng, cookie, codings);
+    }
+    let coding = some_coding(rng, codings);
+    let first = if rng.percent(30) { too_long(rng, coding) } else { skipped(rng, coding) };
+    let mut room = 40 - first.len();
+    let mut options = vec![first];
+    for _ in 0..rng.within(1, 6) {
+        let option = telling(rng, cookie, codings);
+        if option.len() <= room {
+            room -= option.len();
+            options.insert(rng.index(options.len() + 1), option);
+        }
+    }
+    area_with(rng, &options)
+}
+
+/// An option area whose reading ends at any place, with options before it and what looks like
+/// them behind.
+fn ending_area(rng: &mut Rng, cookie: &[u8], codings: Codings) -> Vec<u8> {
+    let any = 4 * rng.within(1, 10) as usize;
+    let room = rng.pick(&[any, 40]);
+    let end = rng.index(room);
+    let mut area = Vec::new();
+    while area.len() < end {
+        let option = telling(rng, cookie, codings);
+        let fits = option.len() <= end - area.len();
+        area.extend(if fits { option } else { vec![wire::NO_OPERATION] });
+    }
+    area.extend(ending(rng, room - end));
+    while area.len() < room {
+        area.extend(telling(rng, cookie, codings));
+    }
+    area.truncate(room);
+    area
+}
+
+/// A Fast Open option of a length that counts or doesn't, or now and then any other option.
+fn telling(rng: &mut Rng, cookie: &[u8], codings: Codings) -> Vec<u8> {
+    let coding = some_coding(rng, codings);
+    match rng.below(8) {
+        0..=2 => fast_open(rng, coding, cookie),
+        3..=6 => skipped(rng, coding),
+        _ => bystander(rng),
+    }
+}
+
+/// What ends a reading when so many bytes are left: kind 0, or an option whose length doesn't
+/// fit; now and then one whose length just does.
+fn ending(rng: &mut Rng, left: usize) -> Vec<u8> {
+    if rng.percent(15) {
+        return vec![wire::END_OF_LIST];
+    }
+    let any = rng.within(2, 255) as u8;
+    let other = rng.pick(&[wire::MSS, any]);
+    let kind = rng.pick(&[wire::FAST_OPEN, wire::EXPERIMENT, other]);
+    let left = left as u8;
+    let length = rng.pick(&[0, 1, left, left + 1, left + 1, 41, 255]);
+    let mark: &[u8] = if kind == wire::EXPERIMENT { &wire::FAST_OPEN_MARK } else { &[] };
+    [&[kind, length], mark].concat()
 }
 
 /// Whole words, of which there may be ten, so that the last option ends, or is cut, exactly at
@@ -357,5 +439,62 @@ mod tests {
             assert!(met.contains(&(length, true, 0)) || length <= 4, "{length} cut off");
         }
         assert!(new_first >= 100 && older_first >= 100);
+    }
+
+    /// The options that a reading skips: where each begins, its kind and its length.
+    fn skipped_in(area: &[u8]) -> Vec<(usize, u8, u8)> {
+        let reading = |end: usize| wire::read_options(&area[..end], Codings::Both).reading;
+        let mut skipped = Vec::new();
+        for end in 1..=area.len() {
+            // Without its last byte the option doesn't fit.
+            let cut = reading(end - 1);
+            if reading(end).skipped > cut.skipped {
+                skipped.push((cut.broken, area[cut.broken - 1], area[cut.broken]));
+            }
+        }
+        skipped
+    }
+
+    #[test]
+    fn telling_areas_have_everything() {
+        let cookie = [1, 2, 3, 4, 5, 6, 7, 8];
+        let mut rng = Rng(1);
+        let (mut skips, mut breaks) = (BTreeSet::new(), BTreeSet::new());
+        let [mut most, mut hidden] = [0; 2];
+        for _ in 0..40_000 {
+            let mut area = telling_area(&mut rng, &cookie, Codings::Both);
+            assert!(area.len() <= 40 && area.len().is_multiple_of(4));
+            let reading = wire::read_options(&area, Codings::Both).reading;
+            for (place, kind, length) in skipped_in(&area) {
+                let side = if reading.used == 0 { None } else { Some(place < reading.used) };
+                skips.insert((kind, length, side));
+            }
+            most = most.max(reading.skipped);
+            if reading.broken > 0 {
+                let kind = area[reading.broken - 1];
+                let sort = if kind == 34 || kind == 254 { kind } else { 0 };
+                let length = area.get(reading.broken).map(|&length| length.min(2));
+                breaks.insert((reading.broken, sort, length));
+            } else if let Some(end) = area.iter().position(|&byte| byte == wire::END_OF_LIST) {
+                area[end] = wire::NO_OPERATION;
+                hidden += usize::from(wire::read_options(&area, Codings::Both).reading != reading);
+            }
+        }
+        for (kind, prefix) in [(34, 2), (254, 4)] {
+            for cookie in (1..=38 - prefix).filter(|n| *n > 16 || *n < 4 || n % 2 == 1) {
+                for side in [None, Some(false), Some(true)] {
+                    assert!(skips.contains(&(kind, prefix + cookie, side)), "{kind} {cookie} {side:?}");
+                }
+            }
+        }
+        for kind in [34, 254, 0] {
+            for (place, length) in (1..40).flat_map(|place| [0, 1, 2].map(|length| (place, length))) {
+                assert!(breaks.contains(&(place, kind, Some(length))), "{kind} {length} at {place}");
+            }
+            for place in (4..=40).step_by(4) {
+                assert!(breaks.contains(&(place, kind, None)), "{kind} at {place}");
+            }
+        }
+        assert!(most >= 8 && hidden >= 500, "{most} {hidden}");
     }
 }
