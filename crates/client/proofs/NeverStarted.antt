@@ -4,6 +4,7 @@ use mathlib.Core.Path.{_≡_, refl, sym, ap, _∙_}
 use mathlib.Core.Bool.{true, false}
 use mathlib.Core.List.{[]}
 use native.Mathlib.Omega.{arith}
+use Rattle.segment.specs.Remarks.{noRemarks}
 use Rattle.segment.specs.Refusal.{applies, refusal}
 use Rattle.segment.specs.declared.refusal.Refusal.{Refusal}
 use Rattle.segment.specs.declared.refusal.Refusal.the-variants.{NotStarted}
@@ -44,12 +45,12 @@ done-number m (connect t own server o offered out-len) = refl
 done-number m (answer t own server a seg g) = refl
 done-number m (failed t server port) = refl
 
--- a call that is refused changes nothing and writes nothing
+-- a call that is refused changes nothing, writes nothing and remarks nothing
 pub refused-same : (m : Memory) (c : Call) (r : Refusal) → step m c .event ≡ events.Refused r
-    → (step m c .memory ≡ m) × (step m c .written ≡ 0) × (outputOf m c ≡ [])
+    → (step m c .memory ≡ m) × (step m c .written ≡ 0) × (step m c .remarks ≡ noRemarks) × (outputOf m c ≡ [])
 unfolding step outputOf
 refused-same m c r e = go (callCheck m c) e
   where
-    go : (k : Check) → outcomeOf m c k .event ≡ events.Refused r → (outcomeOf m c k .memory ≡ m) × (outcomeOf m c k .written ≡ 0) × (outputIf m c k ≡ [])
+    go : (k : Check) → outcomeOf m c k .event ≡ events.Refused r → (outcomeOf m c k .memory ≡ m) × (outcomeOf m c k .written ≡ 0) × (outcomeOf m c k .remarks ≡ noRemarks) × (outputIf m c k ≡ [])
     go Clear q = absurd (positive r (ap numberOfEvent (sym q) ∙ done-number m c))
-    go (Refused s) q = (refl, refl, refl)
+    go (Refused s) q = (refl, refl, refl, refl)

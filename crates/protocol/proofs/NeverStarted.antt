@@ -5,6 +5,7 @@ use mathlib.Core.Bool.{Bool, true, false, not, _||_, or-true}
 use mathlib.Core.List.{List, []}
 use native.Mathlib.Omega.{arith}
 use Rattle.segment.specs.Header.{fieldsOf, kindOf}
+use Rattle.segment.specs.Remarks.{noRemarks}
 use Rattle.segment.specs.Refusal.{applies, refusal}
 use Rattle.segment.specs.declared.refusal.Refusal.{Refusal}
 use Rattle.segment.specs.declared.refusal.Refusal.the-variants.{NotStarted}
@@ -48,15 +49,15 @@ refused-start own port k r e = go (refusal (startChecks own k)) e
     go Clear q = absurd (let z : _≡_ {A = ℕ} 0 1 = cc in omega arith)
     go (Refused s) q = refl
 
--- a call that is refused changes nothing and writes nothing
+-- a call that is refused changes nothing, writes nothing and remarks nothing
 pub refused-same : (l : Listener) (c : Call) (r : Refusal) → step l c .event ≡ events.Refused r
-    → (step l c .listener ≡ l) × (step l c .written ≡ 0) × (outputOf l c ≡ [])
+    → (step l c .listener ≡ l) × (step l c .written ≡ 0) × (step l c .remarks ≡ noRemarks) × (outputOf l c ≡ [])
 unfolding step outputOf
 refused-same l c r e = go (callCheck l c) e
   where
     go : (k : Check) → outcomeOf l c k .event ≡ events.Refused r
-        → (outcomeOf l c k .listener ≡ l) × (outcomeOf l c k .written ≡ 0) × (outputIf (viewOf l c) c k ≡ [])
+        → (outcomeOf l c k .listener ≡ l) × (outcomeOf l c k .written ≡ 0) × (outcomeOf l c k .remarks ≡ noRemarks) × (outputIf (viewOf l c) c k ≡ [])
     go Clear q =
         let done = done-is-0 (Refused r) (ap numberOfEvent (sym q) ∙ done-number (viewOf l c) c) in
         absurd (let z : _≡_ {A = ℕ} 0 1 = cc in omega arith)
-    go (Refused s) q = (refl, refl, refl)
+    go (Refused s) q = (refl, refl, refl, refl)

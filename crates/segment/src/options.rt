@@ -177,7 +177,8 @@ fn is_fast_open(codings: Codings, area: &[u8], i: usize, len: usize) -> bool
     requires { ⌜ (2 ≤ len) × (i + len ≤ length (now area)) ⌝ }
     ensures { λ r. ⌜ r ≡ isFastOpen codings (now (area .entry)) i len ⌝ }
 {
-    if area[i] == 34 {
+    let kind = area[i];
+    if kind == 34 {
         return true;
     }
     if counts_older(codings) {

@@ -116,8 +116,8 @@ fn put_last_number(out: &mut [u8], at: usize, n: u64) -> usize
     ensures { λ r. ⌜ r ≡ placeAfter at (length (lastField (decimal n))) (length (now (out .entry))) ⌝ }
     ensures { λ _. ⌜ now (out .exit) ≡ laid at (lastField (decimal n)) (now (out .entry)) ⌝ }
 {
-    let next = put_number(out, at, n);
-    put(out, next, b"\n")
+    let end = put_number(out, at, n);
+    put(out, end, b"\n")
 }
 
 fn put_hex(out: &mut [u8], at: usize, src: &[u8]) -> usize
