@@ -10,14 +10,14 @@ use lib.ListN.{length}
 use borrow.Author.Tests.{eq-eqb, ne-eqb, lt-ltb, le-ltb}
 use Rattle.segment.specs.Header.{optionArea}
 use Rattle.segment.specs.Options.{isCookieLength, cookieBytes, firstMss}
-use Rattle.segment.specs.Remarks.{readingOf}
+use Rattle.segment.specs.Remarks.{reportOf}
 use Rattle.segment.specs.Write.{optionAllowed, optionLength}
 use Rattle.segment.specs.declared.options.Coding.the-variants.{New}
 use Rattle.segment.specs.declared.options.Codings.{Codings}
 use Rattle.segment.specs.declared.options.FastOpenOption.{FastOpenOption}
 use Rattle.segment.specs.declared.options.FastOpenOption.the-variants.{Absent, Request, Cookie}
 use Rattle.segment.specs.declared.options.Mss.{Mss}
-use Rattle.segment.specs.declared.options.Reading.{Reading}
+use Rattle.segment.specs.declared.options.Report.{Report}
 use Rattle.lists.proofs.Bools.{chosen}
 use Rattle.segment.proofs.Cookie.{AllInside, cookie-length, cookie-length-back, cookie-bytes, inside-segment}
 use Rattle.segment.proofs.Exchange.{allowed-request, allowed-found}
@@ -102,7 +102,7 @@ pub length-some : (n : ℕ) → isCookieLength n ≡ true → eqb n 0 ≡ false
 length-some n e = ne-eqb n 0 (λ z. omega (arith, cookie-length n e .least))
 
 -- an answer's cookie and MSS, from its options and their area
-pub brought-is : (g : Codings) (seg : List ℕ) {r : Reading} {area cookie : List ℕ} → r ≡ readingOf g seg → area ≡ optionArea seg → cookie ≡ cookieBytes (r .options .fast) area
+pub brought-is : (g : Codings) (seg : List ℕ) {r : Report} {area cookie : List ℕ} → r ≡ reportOf g seg → area ≡ optionArea seg → cookie ≡ cookieBytes (r .options .fast) area
     → (cookie ≡ cookieIn g seg) × (r .options .mss ≡ mssIn g seg)
 brought-is g seg er ea ec = (rw (ec, ea, er), rw er)
 

@@ -9,12 +9,12 @@ use borrow.Author.Tests.{not-false}
 use Rattle.segment.specs.Refusal.{Checks, refusal}
 use Rattle.segment.specs.Header.{fieldsOf}
 use Rattle.lists.specs.Bytes.{overwrite}
-use Rattle.segment.specs.Remarks.{noRemarks, readingOf}
+use Rattle.segment.specs.Remarks.{noRemarks, reportOf}
 use Rattle.segment.specs.Write.{openingBytes}
 use Rattle.segment.specs.declared.options.Codings.{Codings}
 use Rattle.segment.specs.declared.options.Mss.{Mss}
 use Rattle.segment.specs.declared.options.Remarks.{Remarks}
-use Rattle.segment.specs.declared.options.Reading.{Reading}
+use Rattle.segment.specs.declared.options.Report.{Report}
 use Rattle.segment.specs.declared.refusal.Refusal.{Refusal}
 use Rattle.segment.specs.declared.refusal.Refusal.the-variants.{Address}
 use Rattle.segment.specs.declared.refusal.Check.{Check}
@@ -162,12 +162,12 @@ module _ (m : Memory) (t : ℕ) (own server : List ℕ) (a : Attempt) (seg : Lis
     answer-time = time-most (m .clock) t (every-check theChecks clear .1 .0)
 
     -- a negative answer, by the count and the option that counts
-    pub answer-negative : {r : Reading} {negative : Bool} → r ≡ readingOf g seg → negative ≡ isUnacknowledged (a .sent) n && not (hasCookie (r .options .fast))
+    pub answer-negative : {r : Report} {negative : Bool} → r ≡ reportOf g seg → negative ≡ isUnacknowledged (a .sent) n && not (hasCookie (r .options .fast))
         → negative ≡ isNegative g a seg
     answer-negative er en = rw (en, er, cookie-told g seg, was-counted (refusal theChecks) a seg theReply .1)
 
-    module _ {b cookie : List ℕ} {mss : Mss} {r : Reading} {negative : Bool} {at known next : Memory} where
-      pub answer-done : at ≡ moved m t (m .cache) (m .bans) → b ≡ block server → cookie ≡ cookieIn g seg → mss ≡ mssIn g seg → r ≡ readingOf g seg
+    module _ {b cookie : List ℕ} {mss : Mss} {r : Report} {negative : Bool} {at known next : Memory} where
+      pub answer-done : at ≡ moved m t (m .cache) (m .bans) → b ≡ block server → cookie ≡ cookieIn g seg → mss ≡ mssIn g seg → r ≡ reportOf g seg
           → known ≡ withCache at (cacheAfter b cookie mss (at .cache))
           → negative ≡ isNegative g a seg → next ≡ withBans known (bansAfter t b (a .dest) negative (known .bans))
           → outcome next (events.Answered n) 0 (r .remarks) ≡ step m answering

@@ -48,7 +48,7 @@ ghost use Rattle.client.specs.Bans.{withBans};
 ghost use Rattle.client.specs.Call.{Call};
 ghost use Rattle.client.specs.Step.{blank, neverStarted, startOf, sentWith, isGiven, cacheAfter, isUnacknowledged, hasCookie, bansAfter, step, outputOf, moved};
 
-// What a call comes to that has no options to remark on.
+// What a call comes to on which nothing is remarked.
 fn unremarked(m: Memory, event: Event, written: usize) -> Outcome
     ensures { λ r. ⌜ r ≡ record { memory = m; event = event; written = written; remarks = noRemarks } ⌝ }
 {

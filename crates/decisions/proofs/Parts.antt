@@ -25,7 +25,7 @@ use Rattle.protocol.specs.declared.state.Keys.{Keys}
 use Rattle.protocol.specs.declared.state.View.{View}
 use Rattle.protocol.proofs.Cookie.{carried-syn, never-right, no-cookie}
 use Rattle.protocol.proofs.Openings.{early-is, fresh-is}
-use Rattle.decisions.specs.Parts.{hasKind, isOpening, openingChecks, openingCheck, enabledWith, countedWith, isFreshFor, laterChecks, laterEvent, laterSlot}
+use Rattle.decisions.specs.Parts.{hasKind, isOpening, openingChecks, openingCheck, enabledWith, optionIfEnabled, isFreshFor, laterChecks, laterEvent, laterSlot}
 use Rattle.decisions.specs.declared.checks.OpeningCheck.the-variants as openings
 
 -- Kinds
@@ -101,7 +101,7 @@ module _ (v : View) where
   new-fresh b seg true n = refl
   new-fresh b seg false n = refl
 
-  module _ (b seg : List ℕ) (syn : kindOf (fieldsOf seg .flags) ≡ Syn) {fast : FastOpenOption} (ef : fast ≡ countedWith (cookiesEnabled v) (readOptions (v .settings .codings) (optionArea seg) .fast)) where
+  module _ (b seg : List ℕ) (syn : kindOf (fieldsOf seg .flags) ≡ Syn) {fast : FastOpenOption} (ef : fast ≡ optionIfEnabled (cookiesEnabled v) (readOptions (v .settings .codings) (optionArea seg) .fast)) where
     pub opens-plain : isCounted fast ≡ false → (isEarly v b seg ≡ false) × (isFresh v b seg ≡ false)
     opens-plain e = rw (early-is v b seg, fresh-is v b seg, carried-syn (v .settings .codings) seg syn) (plain (v .keys) b (optionArea seg) (cookiesEnabled v) (readOptions (v .settings .codings) (optionArea seg) .fast) (rw ef at e))
 

@@ -58,8 +58,8 @@ abbrev pub enabledWith : StoredSettings → ℕ → Bool
 enabledWith g pending = g .on && ltb pending (g .limit)
 
 -- the option by which a new opening is answered, from the one that was read: none where cookies are not enabled
-abbrev pub countedWith : Bool → FastOpenOption → FastOpenOption
-countedWith enabled fast = cond enabled fast Absent
+abbrev pub optionIfEnabled : Bool → FastOpenOption → FastOpenOption
+optionIfEnabled enabled fast = cond enabled fast Absent
 
 -- a fresh cookie goes with the SYN-ACK to an option
 abbrev pub isFreshFor : Keys → List ℕ → Carried → Bool

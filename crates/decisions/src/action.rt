@@ -18,7 +18,7 @@ ghost use lib.ListN.{length};
 ghost use Rattle.protocol.specs.Cookie.{cookieUnder, found, right};
 ghost use Rattle.protocol.specs.Table.{newSlot};
 ghost use Rattle.protocol.specs.Step.{newEvent, newStatus};
-ghost use Rattle.decisions.specs.Parts.{isOpening, enabledWith, countedWith, isFreshFor, laterEvent, laterSlot};
+ghost use Rattle.decisions.specs.Parts.{isOpening, enabledWith, optionIfEnabled, isFreshFor, laterEvent, laterSlot};
 
 // Whether a segment asks for a connection.
 pub fn is_opening(kind: Kind) -> bool
@@ -60,8 +60,8 @@ pub fn cookies_enabled(g: StoredSettings, pending: u32) -> bool
 }
 
 // The Fast Open option by which a new opening is answered: none where cookies are not enabled.
-pub fn counted_option(enabled: bool, fast: FastOpenOption) -> FastOpenOption
-    ensures { λ r. ⌜ r ≡ countedWith enabled fast ⌝ }
+pub fn option_if_enabled(enabled: bool, fast: FastOpenOption) -> FastOpenOption
+    ensures { λ r. ⌜ r ≡ optionIfEnabled enabled fast ⌝ }
 {
     if enabled {
         return fast;

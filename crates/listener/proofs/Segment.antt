@@ -10,7 +10,7 @@ use Rattle.lists.proofs.Elements.{set-same}
 use Rattle.segment.specs.Refusal.{refusal}
 use Rattle.segment.specs.Header.{malformed, fieldsOf, kindOf, optionArea, payloadOf}
 use Rattle.segment.specs.Options.{readOptions, isCounted, codingOf}
-use Rattle.segment.specs.Remarks.{noRemarks, remarksOf, readingIn}
+use Rattle.segment.specs.Remarks.{noRemarks, remarksOf, reportIn}
 use Rattle.segment.specs.Write.{synAckBytes}
 use Rattle.segment.specs.declared.refusal.Refusal.{Refusal}
 use Rattle.segment.specs.declared.refusal.Refusal.the-variants.{Flags}
@@ -20,7 +20,7 @@ use Rattle.segment.specs.declared.options.Coding.{Coding}
 use Rattle.segment.specs.declared.options.Coding.the-variants.{New}
 use Rattle.segment.specs.declared.options.FastOpenOption.{FastOpenOption}
 use Rattle.segment.specs.declared.options.Remarks.{Remarks}
-use Rattle.segment.specs.declared.options.Reading.{Reading}
+use Rattle.segment.specs.declared.options.Report.{Report}
 use Rattle.segment.specs.declared.header.Header.{Header}
 use Rattle.segment.specs.declared.header.Kind.{Kind}
 use Rattle.segment.specs.declared.header.Kind.the-variants.{Syn, Rst, Ack, Other}
@@ -45,7 +45,7 @@ use Rattle.protocol.specs.declared.slots.Scan.{Scan}
 use Rattle.protocol.proofs.Table.{not-free}
 use Rattle.protocol.proofs.Step.{outcome, refusedWith, segment-refused, segment-writes-none, segment-writes, wired-formed}
 use Rattle.table.proofs.ScanOf.{in-table}
-use Rattle.decisions.specs.Parts.{hasKind, isOpening, openingChecks, openingCheck, enabledWith, countedWith, laterChecks, laterEvent, laterSlot}
+use Rattle.decisions.specs.Parts.{hasKind, isOpening, openingChecks, openingCheck, enabledWith, optionIfEnabled, laterChecks, laterEvent, laterSlot}
 use Rattle.decisions.specs.declared.action.Opened.{Opened}
 use Rattle.decisions.specs.declared.checks.OpeningCheck.{OpeningCheck}
 use Rattle.decisions.specs.declared.checks.OpeningCheck.the-variants as openings
@@ -98,24 +98,24 @@ module _ (l : Listener) (t : ℕ) (src seg : List ℕ) (iss out-len : ℕ) (firs
     formed : malformed seg ≡ false
     formed = wired-formed (l .local) (isUntimely (l .clock) t) src seg out-len first
 
-    abbrev Read : List ℕ → Reading → Type 0
-    Read area r = (area ≡ take (4 * h .offset - 20) (drop 20 seg)) × (r ≡ readingIn (l .settings .codings) area)
+    abbrev Read : List ℕ → Report → Type 0
+    Read area r = (area ≡ take (4 * h .offset - 20) (drop 20 seg)) × (r ≡ reportIn (l .settings .codings) area)
 
     area-as : {area : List ℕ} → area ≡ take (4 * h .offset - 20) (drop 20 seg) → area ≡ optionArea seg
     area-as ea = rw (eh, offset-is seg) at ea ∙ area-is seg formed
 
-    reading-as : {area : List ℕ} {r : Reading} → Read area r → r ≡ readingIn (l .settings .codings) (optionArea seg)
-    reading-as er = er .1 ∙ ap (readingIn (l .settings .codings)) (area-as (er .0))
+    report-as : {area : List ℕ} {r : Report} → Read area r → r ≡ reportIn (l .settings .codings) (optionArea seg)
+    report-as er = er .1 ∙ ap (reportIn (l .settings .codings)) (area-as (er .0))
 
-    remarks-are : {area : List ℕ} {r : Reading} → Read area r → r .remarks ≡ remarksOf (l .settings .codings) seg
-    remarks-are er = ap (λ (r : Reading). r .remarks) (reading-as er) ∙ sym (syn-remarks (l .settings .codings) seg kind-is)
+    remarks-are : {area : List ℕ} {r : Report} → Read area r → r .remarks ≡ remarksOf (l .settings .codings) seg
+    remarks-are er = ap (λ (r : Report). r .remarks) (report-as er) ∙ sym (syn-remarks (l .settings .codings) seg kind-is)
 
     module _ {c : OpeningCheck} (ec : c ≡ openingCheck found-checks (isFree (s .status))) where
       pub opening-refused : {r : Refusal} → c ≡ openings.Refused r → (step l this ≡ refusedWith l r) × (outputOf l this ≡ [])
       opening-refused q = segment-refused l t src seg iss out-len first (sym checks-are ∙ was-refused found-checks (isFree (s .status)) (sym ec ∙ q))
 
       -- a repeat changes nothing but the clock
-      pub repeated : c ≡ openings.Repeat → {area : List ℕ} {r : Reading} → Read area r → (cookie : List ℕ)
+      pub repeated : c ≡ openings.Repeat → {area : List ℕ} {r : Report} → Read area r → (cookie : List ℕ)
           → (outcome (moved l t (l .slots)) events.Retransmission (length (synAck s false New cookie)) (r .remarks) ≡ step l this) × (outputOf l this ≡ synAck s false New cookie)
       repeated q er cookie =
           let was = was-repeat found-checks (isFree (s .status)) (sym ec ∙ q) in
@@ -135,19 +135,19 @@ module _ (l : Listener) (t : ℕ) (src seg : List ℕ) (iss out-len : ℕ) (firs
             let some : not (isFree (s .status)) || ltb (scan .free) 64 ≡ true = not-false _ (every-check (openingChecks s (ltb (scan .free) 64) h) (was .0) .1 .0) in
             ltb-true (scan .free) 64 (rw (was .1) at some)
 
-        module _ {enabled : Bool} {area : List ℕ} {reading : Reading} {fast : FastOpenOption} (ee : enabled ≡ enabledWith (l .settings) (scan .pending))
-            (er : Read area reading) (eo : fast ≡ countedWith enabled (reading .options .fast)) where
+        module _ {enabled : Bool} {area : List ℕ} {report : Report} {fast : FastOpenOption} (ee : enabled ≡ enabledWith (l .settings) (scan .pending))
+            (er : Read area report) (eo : fast ≡ optionIfEnabled enabled (report .options .fast)) where
           enabled-is : enabled ≡ cookiesEnabled v
           enabled-is = ee ∙ enabled-with v (scan .pending) (rw scan-is)
 
-          fast-as : fast ≡ countedWith (cookiesEnabled v) (readOptions (l .settings .codings) (optionArea seg) .fast)
-          fast-as = rw (enabled-is, reading-as er) at eo
+          fast-as : fast ≡ optionIfEnabled (cookiesEnabled v) (readOptions (l .settings .codings) (optionArea seg) .fast)
+          fast-as = rw (enabled-is, report-as er) at eo
 
           -- a new connection, early or not, with its slot and whether a fresh cookie goes with its SYN-ACK
           written-new : {early fresh : Bool} {n : ℕ} {e : Event} {new : Slot} {coding : Coding} {cookie : List ℕ} → early ≡ isEarly v (block src) seg → fresh ≡ isFresh v (block src) seg → n ≡ accepts (l .settings) seg
               → e ≡ newEvent early n → new ≡ newSlot b (h .source) (h .seq) iss (newStatus early n) → (fresh ≡ true → coding ≡ codingFor v seg)
               → (fresh ≡ true → cookie ≡ cookieUnder (l .keys .present) b)
-              → (outcome (put l t (scan .free) new) e (length (synAck new fresh coding cookie)) (reading .remarks) ≡ step l this) × (outputOf l this ≡ synAck new fresh coding cookie)
+              → (outcome (put l t (scan .free) new) e (length (synAck new fresh coding cookie)) (report .remarks) ≡ step l this) × (outputOf l this ≡ synAck new fresh coding cookie)
           written-new {early} {fresh} {n} {e} {new} {coding} {cookie} early-is fresh-is n-is e-is new-is coding-is cookie-is =
               let event-is : e ≡ segmentEvent v (block src) seg k = e-is ∙ rw (kind-is, unknown, early-is, n-is) in
               segment-writes l t src seg iss out-len first (sym checks-are ∙ was .0) {e = e} {s = new} event-is
@@ -159,14 +159,14 @@ module _ (l : Listener) (t : ℕ) (src seg : List ℕ) (iss out-len : ℕ) (firs
               (rw e-is (new-writes early n))
 
           pub opened-plain : isCounted fast ≡ false → {new : Slot} → new ≡ newSlot b (h .source) (h .seq) iss SynReceived → (cookie : List ℕ)
-              → (outcome (put l t (scan .free) new) events.Regular (length (synAck new false New cookie)) (reading .remarks) ≡ step l this) × (outputOf l this ≡ synAck new false New cookie)
+              → (outcome (put l t (scan .free) new) events.Regular (length (synAck new false New cookie)) (report .remarks) ≡ step l this) × (outputOf l this ≡ synAck new false New cookie)
           opened-plain none e cookie =
               let p = opens-plain v (block src) seg kind-is fast-as none in
               written-new {early = false} {fresh = false} (sym (p .0)) (sym (p .1)) refl refl e (λ y. absurd (false≢true y)) (λ y. absurd (false≢true y))
 
           pub opened-by-option : isCounted fast ≡ true → {payload : List ℕ} → payload ≡ drop (4 * h .offset) seg → {coding : Coding} → coding ≡ codingOf fast → (r : Opened)
               → Opens (l .keys) b h iss (found fast area) (min (length payload) (l .settings .«early_room»)) r
-              → (outcome (put l t (scan .free) (r .slot)) (r .event) (length (synAck (r .slot) (r .fresh) coding (r .cookie))) (reading .remarks) ≡ step l this)
+              → (outcome (put l t (scan .free) (r .slot)) (r .event) (length (synAck (r .slot) (r .fresh) coding (r .cookie))) (report .remarks) ≡ step l this)
               × (outputOf l this ≡ synAck (r .slot) (r .fresh) coding (r .cookie))
           opened-by-option some {payload} ep coding-is r opens =
               let p = opens-by-option v (block src) seg kind-is fast-as some in

@@ -6,7 +6,7 @@
 // a connection searches it.
 use cipher::expand_key;
 use decisions::action::cookies_enabled;
-use decisions::action::counted_option;
+use decisions::action::option_if_enabled;
 use decisions::action::is_opening;
 use decisions::action::later_event;
 use decisions::action::later_slot;
@@ -70,7 +70,7 @@ ghost use Rattle.protocol.specs.Call.{Call};
 ghost use Rattle.protocol.specs.Refusals.{releaseOf};
 ghost use Rattle.protocol.specs.Step.{blank, freshListener, neverStarted, startOf, step, outputOf, pendingNumber};
 
-// What a call comes to that has no options to remark on.
+// What a call comes to on which nothing is remarked.
 fn unremarked(l: Listener, event: Event, written: usize) -> Outcome
     ensures { λ r. ⌜ r ≡ record { listener = l; event = event; written = written; remarks = noRemarks } ⌝ }
 {
@@ -227,8 +227,8 @@ pub fn segment(l: Listener, time: u64, src: &[u8], seg: &[u8], iss: u32, out: &m
                         return refused(next, why);
                     }
                     OpeningCheck::Repeat => {
-                        let reading = read_options(codings, area_within(seg, h.offset));
-                        let remarks = reading.remarks;
+                        let report = read_options(codings, area_within(seg, h.offset));
+                        let remarks = report.remarks;
                         let cookie = [0u8; 8];
                         let written = write_from(
                             out,
@@ -251,11 +251,11 @@ pub fn segment(l: Listener, time: u64, src: &[u8], seg: &[u8], iss: u32, out: &m
                     OpeningCheck::New => {
                         let i = scan.free;
                         let area = area_within(seg, h.offset);
-                        let reading = read_options(codings, area);
-                        let remarks = reading.remarks;
-                        let options = reading.options;
+                        let report = read_options(codings, area);
+                        let remarks = report.remarks;
+                        let options = report.options;
                         let read = options.fast;
-                        let fast = counted_option(cookies_enabled(settings, scan.pending), read);
+                        let fast = option_if_enabled(cookies_enabled(settings, scan.pending), read);
                         // Without an option no key is read.
                         if !is_counted(fast) {
                             let new = open_plain(b, h, iss);

@@ -14,26 +14,27 @@ use Rattle.lists.proofs.Bools.{and-true}
 use Rattle.segment.specs.Bytes.{byteAt}
 use Rattle.segment.specs.Options.{readFrom, byKind}
 
-module _ {A : Type 0} (on : A → ℕ → ℕ → A) (off : A → ℕ → A) where
+module _ {A : Type 0} (each : A → ℕ → ℕ → A) (broken : A → ℕ → A) where
   -- skipping k bytes is reading from k further on
-  skipped : (i k : ℕ) (rest : List ℕ) (found : A) → readFrom on off i k rest found ≡ readFrom on off (i + k) 0 (drop k rest) found
+  skipped : (i k : ℕ) (rest : List ℕ) (found : A) → readFrom each broken i k rest found ≡ readFrom each broken (i + k) 0 (drop k rest) found
   unfolding readFrom
-  skipped i zero rest found = ap (λ (j : ℕ). readFrom on off j 0 rest found) (sym (add-zero i))
+  skipped i zero rest found = ap (λ (j : ℕ). readFrom each broken j 0 rest found) (sym (add-zero i))
   skipped i (suc k) [] found = refl
   skipped i (suc k) (b ∷ rest) found =
       let e : i + 1 + k ≡ i + suc k = omega arith in
-      skipped (i + 1) k rest found ∙ ap (λ (j : ℕ). readFrom on off j 0 (drop k rest) found) e
+      skipped (i + 1) k rest found ∙ ap (λ (j : ℕ). readFrom each broken j 0 (drop k rest) found) e
 
   -- reading an area from place i on
   abbrev pub readAt : List ℕ → ℕ → A → A
-  readAt area i found = readFrom on off i 0 (drop i area) found
+  readAt area i found = readFrom each broken i 0 (drop i area) found
 
   -- one step at a place: what stands there, its length byte, and the bytes left
   pub one-step : (area : List ℕ) (i : ℕ) (found : A) → i < length area →
       readAt area i found
-      ≡ byKind (byteAt area i) (byteAt area (i + 1)) (length area - i) found (off found i)
+      ≡ byKind (byteAt area i) (byteAt area (i + 1)) (length area - i) found
       (readAt area (i + 1) found)
-      (readAt area (i + 1 + (byteAt area (i + 1) - 1)) (on found i (byteAt area (i + 1))))
+      (readAt area (i + 1 + (byteAt area (i + 1) - 1)) (each found i (byteAt area (i + 1))))
+      (broken found i)
   unfolding readFrom
   one-step area i found h =
       let n = i + 1 in
@@ -42,17 +43,17 @@ module _ {A : Type 0} (on : A → ℕ → ℕ → A) (off : A → ℕ → A) whe
       let d : drop (suc i) area ≡ drop n area = ap (λ (j : ℕ). drop j area) (sym (add-one i)) in
       let e : byteAt (drop n area) 0 ≡ l = getD-drop n area 0 0 ∙ ap (byteAt area) (add-zero n) in
       let r : length (drop n area) + 1 ≡ length area - i = omega (arith, length-drop n area) in
-      ap (λ (t : List ℕ). readFrom on off i 0 t found) (drop-cons area i 0 h ∙ ap (λ (t : List ℕ). k ∷ t) d)
-      ∙ ap (λ (x : ℕ). byKind k x (length (drop n area) + 1) found (off found i) (readAt area n found) (readFrom on off n (x - 1) (drop n area) (on found i x))) e
-      ∙ ap (λ (x : ℕ). byKind k l x found (off found i) (readAt area n found) (readFrom on off n (l - 1) (drop n area) (on found i l))) r
-      ∙ ap (byKind k l (length area - i) found (off found i) (readAt area n found))
-      (skipped n (l - 1) (drop n area) (on found i l)
-      ∙ ap (λ (t : List ℕ). readFrom on off (n + (l - 1)) 0 t (on found i l)) (drop-drop (l - 1) n area))
+      ap (λ (t : List ℕ). readFrom each broken i 0 t found) (drop-cons area i 0 h ∙ ap (λ (t : List ℕ). k ∷ t) d)
+      ∙ ap (λ (x : ℕ). byKind k x (length (drop n area) + 1) found (readAt area n found) (readFrom each broken n (x - 1) (drop n area) (each found i x)) (broken found i)) e
+      ∙ ap (λ (x : ℕ). byKind k l x found (readAt area n found) (readFrom each broken n (l - 1) (drop n area) (each found i l)) (broken found i)) r
+      ∙ ap (λ (z : A). byKind k l (length area - i) found (readAt area n found) z (broken found i))
+      (skipped n (l - 1) (drop n area) (each found i l)
+      ∙ ap (λ (t : List ℕ). readFrom each broken (n + (l - 1)) 0 t (each found i l)) (drop-drop (l - 1) n area))
 
 -- What holds of two readings of one area at their start, and stays with each option and where they break off, holds at their end.
-module _ {A B : Type 0} (on : A → ℕ → ℕ → A) (off : A → ℕ → A) (on′ : B → ℕ → ℕ → B) (off′ : B → ℕ → B) (R : A → B → Type 0) (area : List ℕ)
-    (each : (a : A) (b : B) (i len : ℕ) → len ≡ byteAt area (i + 1) → 2 ≤ len → i + len ≤ length area → R a b → R (on a i len) (on′ b i len))
-    (broken : (a : A) (b : B) (i : ℕ) → i < length area → R a b → R (off a i) (off′ b i)) where
+module _ {A B : Type 0} (each : A → ℕ → ℕ → A) (broken : A → ℕ → A) (each′ : B → ℕ → ℕ → B) (broken′ : B → ℕ → B) (R : A → B → Type 0) (area : List ℕ)
+    (stays : (a : A) (b : B) (i len : ℕ) → len ≡ byteAt area (i + 1) → 2 ≤ len → i + len ≤ length area → R a b → R (each a i len) (each′ b i len))
+    (stays-broken : (a : A) (b : B) (i : ℕ) → i < length area → R a b → R (broken a i) (broken′ b i)) where
   either : (c : Bool) {x y : A} {x′ y′ : B} → (c ≡ true → R x x′) → (c ≡ false → R y y′) → R (cond c x y) (cond c x′ y′)
   either true f h = f refl
   either false f h = h refl
@@ -61,7 +62,7 @@ module _ {A B : Type 0} (on : A → ℕ → ℕ → A) (off : A → ℕ → A) (
   next : (i : ℕ) (b : ℕ) (rest : List ℕ) → b ∷ rest ≡ drop i area → rest ≡ drop (i + 1) area
   next i b rest e = ap (drop 1) e ∙ drop-drop 1 i area
 
-  together : (i skip : ℕ) (rest : List ℕ) (a : A) (b : B) → rest ≡ drop i area → R a b → R (readFrom on off i skip rest a) (readFrom on′ off′ i skip rest b)
+  together : (i skip : ℕ) (rest : List ℕ) (a : A) (b : B) → rest ≡ drop i area → R a b → R (readFrom each broken i skip rest a) (readFrom each′ broken′ i skip rest b)
   unfolding readFrom
   together i skip [] a b e r = r
   together i (suc skip) (x ∷ rest) a b e r = together (i + 1) skip rest a b (next i x rest e) r
@@ -77,8 +78,8 @@ module _ {A B : Type 0} (on : A → ℕ → ℕ → A) (off : A → ℕ → A) (
       let t = and-true (leb 2 len) (leb len (length rest + 1)) f in
       let least = leb-true 2 len (t .0) in
       let most = leb-true len (length rest + 1) (t .1) in
-      together (i + 1) (len - 1) rest (on a i len) (on′ b i len) e₁ (each a b i len here least (omega arith) r))
-      (λ _. broken a b i (omega arith) r)))
+      together (i + 1) (len - 1) rest (each a i len) (each′ b i len) e₁ (stays a b i len here least (omega arith) r))
+      (λ _. stays-broken a b i (omega arith) r)))
 
-  pub both-readings : (a : A) (b : B) → R a b → R (readFrom on off 0 0 area a) (readFrom on′ off′ 0 0 area b)
+  pub both-readings : (a : A) (b : B) → R a b → R (readFrom each broken 0 0 area a) (readFrom each′ broken′ 0 0 area b)
   both-readings a b r = together 0 0 area a b refl r

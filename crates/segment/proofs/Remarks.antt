@@ -1,6 +1,6 @@
 -- The laws of the remarks: what each option adds to them, that the place of the used option agrees with what was found, and the samples. Assumes nothing.
 use Prim.Native.Nat.{ℕ, _+_, _-_, _≤_}
-use mathlib.Core.Path.{_≡_, refl}
+use mathlib.Core.Path.{_≡_, refl, ap, sym, _∙_}
 use mathlib.Core.Bool.{Bool, true, false, cond, _&&_, and-false}
 use mathlib.Core.List.{List, _∷_}
 use native.Mathlib.Omega.{arith}
@@ -10,17 +10,19 @@ use lib.ListN.{length}
 use Rattle.lists.proofs.Bools.{or-false, chosen}
 use Rattle.segment.specs.Bytes.{byteAt}
 use Rattle.segment.specs.Header.{optionArea, fieldsOf, kindOf, has, SYN}
-use Rattle.segment.specs.Options.{isCookieLength, cookieAt, isIn, prefixLength, optionIn, countsCoding, fastOpenOption, isCounted, firstFastOpen, nothing, withOption, readFrom, stands, readOptions, ifSyn, optionsOf}
+use Rattle.segment.specs.Options.{isMssOption, mssOption, isCookieLength, cookieAt, isIn, prefixLength, optionIn, countsCoding, fastOpenOption, isCounted, firstFastOpen, nothing, withOption, readFrom, stands, readOptions, ifSyn, optionsOf}
 use Rattle.segment.specs.Remarks.{noRemarks, isFastOpen, isSkipped, firstAt, withRemark, brokenAt, remarksIn, remarksOf}
-use Rattle.segment.specs.Remarked.{Agrees, Remarked}
+use Rattle.segment.specs.Places.{fastAt}
+use Rattle.segment.specs.RemarkSamples.{Agrees, RemarkSamples}
 use Rattle.segment.specs.declared.options.Coding.{Coding}
 use Rattle.segment.specs.declared.options.Coding.the-variants.{New, Older}
 use Rattle.segment.specs.declared.options.Codings.{Codings}
 use Rattle.segment.specs.declared.options.FastOpenOption.{FastOpenOption}
 use Rattle.segment.specs.declared.options.FastOpenOption.the-variants.{Absent, Request, Cookie}
+use Rattle.segment.specs.declared.options.Options.{Options}
 use Rattle.segment.specs.declared.options.Remarks.{Remarks}
 use Rattle.segment.proofs.ReadFrom.{both-readings}
-use Rattle.segment.proofs.Places.{place-stays}
+use Rattle.segment.proofs.Places.{place-stays, places-found, places-remarks}
 use Rattle.segment.proofs.Cookie.{syn-flag, later-flag}
 use Rattle.segment.specs.declared.header.Kind.the-variants.{Syn, Other}
 
@@ -73,6 +75,10 @@ module _ (g : Codings) (area : List ℕ) (i len : ℕ) where
   next-agrees (Request c) used e = rw (place-stays used (isCounted (fastOpenOption g area i len)) i e) e
   next-agrees (Cookie c at n) used e = rw (place-stays used (isCounted (fastOpenOption g area i len)) i (e .0)) e
 
+-- what is found begins at the used place
+begins : (g : Codings) (area : List ℕ) → fastAt g area (remarksIn g area .used) ≡ readOptions g area .fast
+begins g area = ap (λ (r : Remarks). fastAt g area (r .used)) (sym (places-remarks g area)) ∙ ap (λ (o : Options). o .fast) (places-found g area)
+
 pub agrees-in : (g : Codings) (area : List ℕ) → Agrees (readOptions g area .fast) (remarksIn g area .used)
 unfolding readOptions remarksIn withOption withRemark
 agrees-in g area =
@@ -97,15 +103,17 @@ unfolding remarksOf fieldsOf
 later-remarks g seg f h = rw (later-flag (byteAt seg 13) f h)
 
 -- The samples, computed
-pub remarked : Remarked
-unfolding remarksIn readFrom withRemark isSkipped isFastOpen fastOpenOption isIn optionIn cookieAt isCookieLength
-remarked =
+pub remark-samples : RemarkSamples
+unfolding readOptions remarksIn readFrom withOption isMssOption mssOption withRemark isSkipped isFastOpen fastOpenOption isIn optionIn cookieAt isCookieLength
+remark-samples =
     record {
+      begins = begins;
       agrees-in = agrees-in;
       agrees-of = agrees-of;
-      skipped = λ g. (refl, refl);
-      older = (refl, (refl, (refl, refl)));
+      skipped = λ g. (refl, (refl, refl));
+      older = (refl, (refl, (refl, (refl, refl))));
       broken = λ g. (refl, (refl, (refl, (refl, (refl, refl)))));
       ended = λ g rest. (refl, rw (le-leb 3 (length (3 ∷ 0 ∷ 0 ∷ rest) + 1) (omega arith)));
       unknown = λ g. refl;
+      apart = λ g. (refl, (refl, refl));
     }

@@ -12,4 +12,4 @@ pub mod Totals
 pub mod Sequence
 pub mod Write
 pub mod Older
-pub mod Remarked
+pub mod RemarkSamples

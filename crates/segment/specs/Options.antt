@@ -99,18 +99,19 @@ withOption g area found i len =
 
 -- One step, at a kind byte: kind 0 ends the list, kind 1 is one byte, and any other kind has a length of at least 2 that fits the bytes left, or the reading breaks off.
 abbrev pub byKind : {A : Type 0} → ℕ → ℕ → ℕ → A → A → A → A → A
-byKind kind len left end broken one on =
-    cond (eqb kind 0) end (cond (eqb kind 1) one (cond (leb 2 len && leb len left) on broken))
+byKind kind len left end one whole broken =
+    cond (eqb kind 0) end (cond (eqb kind 1) one (cond (leb 2 len && leb len left) whole broken))
 
--- Reading from place i on, where `rest` stands; `skip` bytes of it belong to the option before. What is found so far goes on by `on` with each option, its place and its length, and by `off`
--- with the place where the reading breaks off.
+-- Reading from place i on, where `rest` stands; `skip` bytes of it belong to the option before. To what is found so far `each` adds an option, at its place and with its length, and `broken` the
+-- place where the reading breaks off.
 unfoldable pub readFrom : {A : Type 0} → (A → ℕ → ℕ → A) → (A → ℕ → A) → ℕ → ℕ → List ℕ → A → A
-readFrom on off i skip [] found = found
-readFrom on off i (suc skip) (b ∷ rest) found = readFrom on off (i + 1) skip rest found
-readFrom on off i zero (kind ∷ rest) found =
-    byKind kind (byteAt rest 0) (length rest + 1) found (off found i)
-    (readFrom on off (i + 1) 0 rest found)
-    (readFrom on off (i + 1) (byteAt rest 0 - 1) rest (on found i (byteAt rest 0)))
+readFrom each broken i skip [] found = found
+readFrom each broken i (suc skip) (b ∷ rest) found = readFrom each broken (i + 1) skip rest found
+readFrom each broken i zero (kind ∷ rest) found =
+    byKind kind (byteAt rest 0) (length rest + 1) found
+    (readFrom each broken (i + 1) 0 rest found)
+    (readFrom each broken (i + 1) (byteAt rest 0 - 1) rest (each found i (byteAt rest 0)))
+    (broken found i)
 
 -- where it breaks off, what was found before stands
 abbrev pub stands : Options → ℕ → Options

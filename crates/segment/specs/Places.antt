@@ -40,7 +40,7 @@ fastAt g area at = cond (eqb at 0) Absent (fastOpenOption g area (at - 1) (byteA
 abbrev pub foundAt : Codings → List ℕ → Places → Options
 foundAt g area p = record { mss = mssAt area (p .«mss_at»); fast = fastAt g area (p .remarks .used) }
 
--- if there is a place, an option of four bytes, or one that counts, begins there and lies in the area
+-- if there is a place, four bytes lie in the area from there, or all of an option that counts
 abbrev pub MssFits : List ℕ → ℕ → Type 0
 MssFits area at = 0 < at → at + 3 ≤ length area
 

@@ -10,7 +10,7 @@ use Rattle.segment.specs.Options.{isIn, countsCoding, fastOpenOption, is
 use Rattle.segment.specs.declared.options.Coding.the-variants.{New, Older}
 use Rattle.segment.specs.declared.options.Codings.{Codings}
 use Rattle.segment.specs.declared.options.Remarks.{Remarks}
-use Rattle.segment.specs.declared.options.Reading.{Reading}
+use Rattle.segment.specs.declared.options.Report.{Report}
 
 -- Places are a kind byte's and count from 1; 0 is none.
 abbrev pub noRemarks : Remarks
@@ -49,8 +49,8 @@ unfoldable pub remarksOf : Codings → List ℕ → Remarks
 remarksOf g seg = cond (has (byteAt seg 13) SYN) (remarksIn g (optionArea seg)) noRemarks
 
 -- The reader's report, of an area and of a segment
-abbrev pub readingIn : Codings → List ℕ → Reading
-readingIn g area = record { options = readOptions g area; remarks = remarksIn g area }
+abbrev pub reportIn : Codings → List ℕ → Report
+reportIn g area = record { options = readOptions g area; remarks = remarksIn g area }
 
-abbrev pub readingOf : Codings → List ℕ → Reading
-readingOf g seg = record { options = optionsOf g seg; remarks = remarksOf g seg }
+abbrev pub reportOf : Codings → List ℕ → Report
+reportOf g seg = record { options = optionsOf g seg; remarks = remarksOf g seg }

@@ -7,7 +7,7 @@ ghost use mathlib.Core.Path.{_≡_};
 ghost use Prim.Native.Nat.{_+_, _<_, _≤_};
 ghost use lib.ListN.{length};
 ghost use Rattle.segment.specs.Options.{isMssOption, isCookieLength, cookieAt, isIn, countsCoding, codingsOf, fastOpenOption, isCounted, firstMss, cookieBytes, codingOf};
-ghost use Rattle.segment.specs.Remarks.{noRemarks, isFastOpen, firstAt, withRemark, readingIn, readingOf};
+ghost use Rattle.segment.specs.Remarks.{noRemarks, isFastOpen, firstAt, withRemark, reportIn, reportOf};
 ghost use Rattle.segment.specs.Places.{mssAt, fastAt, placesBroken, placesIn, MssFits, FastFits};
 
 // The own MSS that an end may be set to lies between these.
@@ -33,7 +33,7 @@ pub enum Codings {
     Both,
 }
 
-// The Fast Open option: none, an empty one that asks for a cookie, or a cookie by its place in the area.
+// The Fast Open option: none, an empty one that asks for a cookie, or a cookie by its place in the area, which counts from 0.
 pub enum FastOpenOption {
     Absent,
     Request(Coding),
@@ -44,7 +44,7 @@ pub enum FastOpenOption {
     },
 }
 
-// The options that count: the first MSS, and the first Fast Open option in either coding.
+// The options that count: the first MSS, and the first Fast Open option in a coding that counts.
 pub struct Options {
     pub mss: Mss,
     pub fast: FastOpenOption,
@@ -157,7 +157,7 @@ pub struct Remarks {
 }
 
 // All that the reader reports: the options that count, and its remarks.
-pub struct Reading {
+pub struct Report {
     pub options: Options,
     pub remarks: Remarks,
 }
@@ -309,22 +309,22 @@ fn fast_from(codings: Codings, area: &[u8], at: usize) -> FastOpenOption
 }
 
 // Reads an option area. Where a length does not fit, the reading breaks off and what was found before stands.
-pub fn read_options(codings: Codings, area: &[u8]) -> Reading
-    ensures { λ r. ⌜ r ≡ readingIn codings (now (area .entry)) ⌝ }
+pub fn read_options(codings: Codings, area: &[u8]) -> Report
+    ensures { λ r. ⌜ r ≡ reportIn codings (now (area .entry)) ⌝ }
 {
     let found = find_options(codings, area);
     let remarks = found.remarks;
     let mss = mss_from(area, found.mss_at);
     let fast = fast_from(codings, area, remarks.used);
-    Reading {
+    Report {
         options: Options { mss, fast },
         remarks,
     }
 }
 
-// The same of a segment: without SYN no Fast Open option counts and nothing is remarked, and a malformed segment has no options.
-pub fn segment_options(codings: Codings, seg: &[u8]) -> Reading
-    ensures { λ r. ⌜ r ≡ readingOf codings (now (seg .entry)) ⌝ }
+// Reads the options of a segment: without SYN no Fast Open option counts and nothing is remarked, and a malformed segment has no options.
+pub fn segment_options(codings: Codings, seg: &[u8]) -> Report
+    ensures { λ r. ⌜ r ≡ reportOf codings (now (seg .entry)) ⌝ }
 {
     let found = read_options(codings, option_area(seg));
     if has_syn(seg) {
@@ -332,7 +332,7 @@ pub fn segment_options(codings: Codings, seg: &[u8]) -> Reading
     }
     let options = found.options;
     let mss = options.mss;
-    Reading {
+    Report {
         options: Options {
             mss,
             fast: FastOpenOption::Absent,

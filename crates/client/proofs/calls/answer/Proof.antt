@@ -96,10 +96,10 @@ returns-2 c =
     let o = brought l in
     let b = named-at o in
     let a = start b .args in
-    let reading = parsed (area o) .segment-options .ensures in
-    let negative = answer-negative (a .m) (a .time) (a .own .now) (a .server .now) (a .a) (a .seg .now) (a .codings) (acknowledged (counted b)) reading (j .is-negative .ensures) in
+    let report = parsed (area o) .segment-options .ensures in
+    let negative = answer-negative (a .m) (a .time) (a .own .now) (a .server .now) (a .a) (a .seg .now) (a .codings) (acknowledged (counted b)) report (j .is-negative .ensures) in
     answer-done (a .m) (a .time) (a .own .now) (a .server .now) (a .a) (a .seg .now) (a .codings) (acknowledged (counted b))
-    (timed (checked (counted b)) .at-time .ensures) (named b) (brings o .0) (brings o .1) reading (l .learn .ensures) negative (c .ban-if .ensures)
+    (timed (checked (counted b)) .at-time .ensures) (named b) (brings o .0) (brings o .1) report (l .learn .ensures) negative (c .ban-if .ensures)
 
 pub answer-spec : {M : Type 1} → statement M
 answer-spec =

@@ -235,7 +235,7 @@ returns-5 c =
     let k = known o in
     let a = start (n k) .args in
     written-over (a .out .now) (opened-plain (a .l) (a .time) (a .src .now) (a .seg .now) (a .iss) (length (a .out .now)) (read (n k) .0) (read (n k) .1) (block-is k) (kind (n k) .kind-of .ensures) (is-one o)
-    (scan-is o) (slot-is o) (o .check-opening .ensures) (told .enum-told2 .given .1) (counted .before .before .cookies-enabled .ensures) (read-from counted .before .area-within2 .ensures, read-from counted .read-options2 .ensures) (counted .before .counted-option .ensures)
+    (scan-is o) (slot-is o) (o .check-opening .ensures) (told .enum-told2 .given .1) (counted .before .before .cookies-enabled .ensures) (read-from counted .before .area-within2 .ensures, read-from counted .read-options2 .ensures) (counted .before .option-if-enabled .ensures)
     (sym (counted .is-counted .ensures) ∙ not-true _ (made .before .if3 .taken)) (made .open-plain .ensures) (replicate 8 0)) (wrote .write-from2 .ensures)
 
 mul-new-2 : tie.Need-mul-new-2 Inv-loop μ-loop Inv-loop2 μ-loop2
@@ -255,7 +255,7 @@ returns-6 c =
     let k = known o in
     let a = start (n k) .args in
     written-over (a .out .now) (opened-by-option (a .l) (a .time) (a .src .now) (a .seg .now) (a .iss) (length (a .out .now)) (read (n k) .0) (read (n k) .1) (block-is k) (kind (n k) .kind-of .ensures) (is-one o)
-    (scan-is o) (slot-is o) (o .check-opening .ensures) (told .enum-told2 .given .1) (counted .before .before .cookies-enabled .ensures) (read-from counted .before .area-within2 .ensures, read-from counted .read-options2 .ensures) (counted .before .counted-option .ensures)
+    (scan-is o) (slot-is o) (o .check-opening .ensures) (told .enum-told2 .given .1) (counted .before .before .cookies-enabled .ensures) (read-from counted .before .area-within2 .ensures, read-from counted .read-options2 .ensures) (counted .before .option-if-enabled .ensures)
     (sym (counted .is-counted .ensures) ∙ not-false _ (made .before .before .before .if3 .left)) (made .before .payload-after .ensures) (coded .coding-of .ensures) (made .open-by-option .result) (made .open-by-option .ensures)) (wrote .write-from3 .ensures)
 
 loop2-holds : tie.Need-loop2-holds Inv-loop μ-loop Inv-loop2 μ-loop2
