@@ -18,7 +18,7 @@ use Rattle.segment.specs.declared.options.Codings.{Codings}
 use Rattle.segment.specs.declared.options.FastOpenOption.{FastOpenOption}
 use Rattle.segment.specs.declared.options.FastOpenOption.the-variants.{Absent, Request, Cookie}
 use Rattle.segment.specs.declared.options.Options.{Options}
-use Rattle.segment.specs.Options.{isCookieLength, cookieAt, isIn, prefixLength, optionIn, countsCoding, fastOpenOption, firstFastOpen, nothing, withOption, stands, readOptions, ifSyn, optionsOf, cookieBytes, codingOf}
+use Rattle.segment.specs.Options.{isCookieLength, cookieAt, isIn, prefixLength, optionIn, countsCoding, isFastOpenIn, fastOpenOption, firstFastOpen, nothing, withOption, stands, readOptions, ifSyn, optionsOf, cookieBytes, codingOf}
 use Rattle.lists.proofs.Bools.{and-true, chosen}
 use Rattle.segment.proofs.ReadFrom.{both-readings}
 
@@ -57,15 +57,16 @@ module _ (P : FastOpenOption → Type 0) (absent : P Absent) (g : Codings) (area
   first-of (Request c) next p q = p
   first-of (Cookie c at len) next p q = p
 
+  of-coding : (c : Coding) (i len : ℕ) → 2 ≤ len → i + len ≤ length area → isFastOpenIn g c area i len ≡ true → P (optionIn c i len)
+  of-coding c i len k h e =
+      let t = and-true (isIn c area i len) (countsCoding g c) e in
+      each c (t .1) i len (t .0) k h
+
   of-one : (i len : ℕ) → 2 ≤ len → i + len ≤ length area → P (fastOpenOption g area i len)
   unfolding fastOpenOption
   of-one i len k h =
-      chosen P (isIn New area i len) _ _ (λ e. each New refl i len e k h)
-      (λ _. chosen P (isIn Older area i len && countsCoding g Older) _ _
-      (λ e.
-      let t = and-true (isIn Older area i len) (countsCoding g Older) e in
-      each Older (t .1) i len (t .0) k h)
-      (λ _. absent))
+      chosen P (isFastOpenIn g New area i len) _ _ (of-coding New i len k h)
+      (λ _. chosen P (isFastOpenIn g Older area i len) _ _ (of-coding Older i len k h) (λ _. absent))
 
   of-found : P (readOptions g area .fast)
   unfolding readOptions withOption

@@ -1,7 +1,7 @@
 -- Samples of the older coding, computed; and with new only, document 01's option. Assumes nothing.
 use Prim.Native.Nat.{ℕ, _+_, _-_}
 use mathlib.Core.Path.{_≡_, refl}
-use mathlib.Core.Bool.{cond, and-false}
+use mathlib.Core.Bool.{cond, and-true, and-false}
 use mathlib.Core.List.{List}
 use lib.Dec.{eqb}
 use Rattle.segment.specs.Bytes.{byteAt}
@@ -14,7 +14,7 @@ use Rattle.segment.specs.declared.options.FastOpenOption.the-variants.{A
 
 as-before : (area : List ℕ) (i len : ℕ) → fastOpenOption NewOnly area i len ≡ cond (eqb (byteAt area i) 34) (cookieAt New (i + 2) (len - 2)) Absent
 unfolding fastOpenOption isIn optionIn
-as-before area i len = simp and-false
+as-before area i len = simp (and-true, and-false)
 
 pub older-coding : OlderCoding
 unfolding readOptions readFrom withOption isMssOption mssOption fastOpenOption isIn optionIn cookieAt isCookieLength optionBytes

@@ -10,7 +10,7 @@ use lib.ListN.{length}
 use Rattle.lists.proofs.Bools.{or-false, chosen}
 use Rattle.segment.specs.Bytes.{byteAt}
 use Rattle.segment.specs.Header.{optionArea, fieldsOf, kindOf, has, SYN}
-use Rattle.segment.specs.Options.{isMssOption, mssOption, isCookieLength, cookieAt, isIn, prefixLength, optionIn, countsCoding, fastOpenOption, isCounted, firstFastOpen, nothing, withOption, readFrom, stands, readOptions, ifSyn, optionsOf}
+use Rattle.segment.specs.Options.{isMssOption, mssOption, isCookieLength, cookieAt, isIn, prefixLength, optionIn, isFastOpenIn, fastOpenOption, isCounted, firstFastOpen, nothing, withOption, readFrom, stands, readOptions, ifSyn, optionsOf}
 use Rattle.segment.specs.Remarks.{noRemarks, isFastOpen, isSkipped, firstAt, withRemark, brokenAt, remarksIn, remarksOf}
 use Rattle.segment.specs.Places.{fastAt}
 use Rattle.segment.specs.RemarkSamples.{Agrees, RemarkSamples}
@@ -31,7 +31,7 @@ module _ (g : Codings) (area : List ℕ) (i len : ℕ) where
   not-fast-open : isFastOpen g area i len ≡ false → fastOpenOption g area i len ≡ Absent
   unfolding isFastOpen fastOpenOption
   not-fast-open e =
-      let t = or-false (isIn New area i len) (isIn Older area i len && countsCoding g Older) e in
+      let t = or-false (isFastOpenIn g New area i len) (isFastOpenIn g Older area i len) e in
       rw (t .0, t .1)
 
   -- so an option changes nothing if it is none, or is the used one, another that counts, or skipped
@@ -58,8 +58,8 @@ module _ (g : Codings) (area : List ℕ) (i len : ℕ) where
   here-agrees : Agrees (fastOpenOption g area i len) (firstAt 0 (isCounted (fastOpenOption g area i len)) i)
   unfolding fastOpenOption optionIn cookieAt
   here-agrees =
-      chosen Here (isIn New area i len) _ _ (λ _. in-coding New)
-      (λ _. chosen Here (isIn Older area i len && countsCoding g Older) _ _ (λ _. in-coding Older) (λ _. refl))
+      chosen Here (isFastOpenIn g New area i len) _ _ (λ _. in-coding New)
+      (λ _. chosen Here (isFastOpenIn g Older area i len) _ _ (λ _. in-coding Older) (λ _. refl))
     where
       Here : FastOpenOption → Type 0
       Here f = Agrees f (firstAt 0 (isCounted f) i)

@@ -53,7 +53,7 @@ prefixLength Older = 4
 unfoldable pub optionIn : Coding → ℕ → ℕ → FastOpenOption
 optionIn c i len = cookieAt c (i + prefixLength c) (len - prefixLength c)
 
--- the codings that a setting counts
+-- the codings that a setting counts: the new one always
 abbrev pub countsCoding : Codings → Coding → Bool
 countsCoding g New = true
 countsCoding NewOnly Older = false
@@ -64,11 +64,15 @@ abbrev pub codingsOf : Bool → Codings
 codingsOf false = NewOnly
 codingsOf true = Both
 
--- the option of len bytes, at least 2, at i, if it is in a coding that counts; the new one always does
+-- a Fast Open option in a coding that counts, whatever its length
+abbrev pub isFastOpenIn : Codings → Coding → List ℕ → ℕ → ℕ → Bool
+isFastOpenIn g c area i len = isIn c area i len && countsCoding g c
+
+-- the option of len bytes, at least 2, at i
 unfoldable pub fastOpenOption : Codings → List ℕ → ℕ → ℕ → FastOpenOption
 fastOpenOption g area i len =
-    cond (isIn New area i len) (optionIn New i len)
-    (cond (isIn Older area i len && countsCoding g Older) (optionIn Older i len) Absent)
+    cond (isFastOpenIn g New area i len) (optionIn New i len)
+    (cond (isFastOpenIn g Older area i len) (optionIn Older i len) Absent)
 
 -- a Fast Open option counts
 abbrev pub isCounted : FastOpenOption → Bool

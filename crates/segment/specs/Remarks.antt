@@ -6,7 +6,7 @@ use mathlib.Core.Bool.{Bool, cond, not, _&&_, _||_}
 use lib.Dec.{eqb}
 use Rattle.segment.specs.Bytes.{byteAt}
 use Rattle.segment.specs.Header.{optionArea, has, SYN}
-use Rattle.segment.specs.Options.{isIn, countsCoding, fastOpenOption, isCounted, readFrom, readOptions, optionsOf}
+use Rattle.segment.specs.Options.{isFastOpenIn, fastOpenOption, isCounted, readFrom, readOptions, optionsOf}
 use Rattle.segment.specs.declared.options.Coding.the-variants.{New, Older}
 use Rattle.segment.specs.declared.options.Codings.{Codings}
 use Rattle.segment.specs.declared.options.Remarks.{Remarks}
@@ -16,9 +16,9 @@ use Rattle.segment.specs.declared.options.Report.{Report}
 abbrev pub noRemarks : Remarks
 noRemarks = record { skipped = 0; used = 0; broken = 0 }
 
--- a Fast Open option in a coding that counts, whatever its length
+-- a Fast Open option, whatever its length
 unfoldable pub isFastOpen : Codings → List ℕ → ℕ → ℕ → Bool
-isFastOpen g area i len = isIn New area i len || (isIn Older area i len && countsCoding g Older)
+isFastOpen g area i len = isFastOpenIn g New area i len || isFastOpenIn g Older area i len
 
 -- skipped for a bad length
 unfoldable pub isSkipped : Codings → List ℕ → ℕ → ℕ → Bool
