@@ -5,6 +5,6 @@ pub mod Bans
 pub mod Call
 pub mod Refusals
 pub mod Step
-pub mod Unremarked
+pub mod RemarksApart
 pub mod Room
 pub mod History

@@ -1,11 +1,11 @@
--- The theorems: Demand3 (demand 3), Sixteen (the table of sixteen), TwoOpenings (two openings from one address), Answered (the SYN-ACK to a new opening), Unremarked (what does not depend on the remarks), NeverStarted (what a refusal leaves), DoneOutput (the kind
+-- The theorems: Demand3 (demand 3), Sixteen (the table of sixteen), TwoOpenings (two openings from one address), Answered (the SYN-ACK to a new opening), RemarksApart (what does not depend on the remarks), NeverStarted (what a refusal leaves), DoneOutput (the kind
 -- of an outcome and the length of its SYN-ACK), Cookie (when a cookie is right). For the code that meets `step`: StartOf, Refusals and Step (a start, the checks of each
 -- call, and the outcome of each call by them). The others carry these.
 pub mod Demand3
 pub mod Sixteen
 pub mod TwoOpenings
 pub mod Answered
-pub mod Unremarked
+pub mod RemarksApart
 pub mod NeverStarted
 pub mod DoneOutput
 pub mod Cookie

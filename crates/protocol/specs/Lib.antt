@@ -10,5 +10,5 @@ pub mod Journal
 pub mod Demand3
 pub mod TwoOpenings
 pub mod Answered
-pub mod Unremarked
+pub mod RemarksApart
 pub mod Sixteen

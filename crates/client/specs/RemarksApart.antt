@@ -11,23 +11,23 @@ use Rattle.client.specs.Step.{cookieIn, mssIn, step, outputOf}
 use Rattle.client.specs.declared.outcome.Attempt.{Attempt}
 use Rattle.client.specs.declared.state.Memory.{Memory}
 
--- The header, the cookie and the MSS. Skipped options, the option's place and a break may differ.
+-- The header, the cookie and the MSS. Skipped options, the option's place, a break and how long the option area is may differ.
 pub record Alike (g : Codings) (own server seg other : List ℕ) : Type 0 where
   pub shape : malformed seg ≡ malformed other
   pub sum : checksumRight server own seg ≡ checksumRight server own other
-  pub fields : fieldsOf seg ≡ fieldsOf other
+  pub source : fieldsOf seg .source ≡ fieldsOf other .source
+  pub dest : fieldsOf seg .dest ≡ fieldsOf other .dest
+  pub ack : fieldsOf seg .ack ≡ fieldsOf other .ack
+  pub flags : fieldsOf seg .flags ≡ fieldsOf other .flags
   pub cookie : cookieIn g seg ≡ cookieIn g other
   pub mss : mssIn g seg ≡ mssIn g other
 
-module _ (m : Memory) (t : ℕ) (own server : List ℕ) (a : Attempt) (seg other : List ℕ) (g : Codings) where
-  abbrev pub one : Call
-  one = answer t own server a seg g
+module _ (m : Memory) (t : ℕ) (own server : List ℕ) (a : Attempt) (g : Codings) where
+  abbrev pub taking : List ℕ → Call
+  taking seg = answer t own server a seg g
 
-  abbrev pub two : Call
-  two = answer t own server a other g
-
-  pub record Unremarked : Type 0 where
-    pub memory : step m one .memory ≡ step m two .memory
-    pub event : step m one .event ≡ step m two .event
-    pub written : step m one .written ≡ step m two .written
-    pub output : outputOf m one ≡ outputOf m two
+  pub record Same (seg other : List ℕ) : Type 0 where
+    pub memory : step m (taking seg) .memory ≡ step m (taking other) .memory
+    pub event : step m (taking seg) .event ≡ step m (taking other) .event
+    pub written : step m (taking seg) .written ≡ step m (taking other) .written
+    pub output : outputOf m (taking seg) ≡ outputOf m (taking other)
