@@ -29,7 +29,7 @@ use Rattle.client.specs.Cache.{cookieLength, entryFor, withCache}
 use Rattle.client.specs.Bans.{isBanned, addBan, withBans}
 use Rattle.client.specs.Call.{Call, connect, answer, failed}
 use Rattle.client.specs.Refusals.{countIn, openChecks, answerChecks, callCheck, replyFrom}
-use Rattle.client.specs.Step.{blank, neverStarted, startOf, openingFor, sentWith, cookieIn, mssIn, cacheAfter, isUnacknowledged, isNegative, hasCookie, bansAfter, moved, after, doneEvent, doneOutput, doneRemarks, outcomeOf, step, outputIf, outputOf}
+use Rattle.client.specs.Step.{blank, neverStarted, startOf, openingFor, sentWith, cookieIn, mssIn, cacheAfter, isUnacknowledged, isNegative, hasCookie, bansAfter, moved, after, doneEvent, doneOutput, doneRemarks, outcome, outcomeOf, step, outputIf, outputOf}
 use Rattle.client.specs.declared.outcome.ActiveOpen.{ActiveOpen}
 use Rattle.client.specs.declared.outcome.Attempt.{Attempt}
 use Rattle.client.specs.declared.outcome.Event.{Event}
@@ -41,9 +41,6 @@ use Rattle.client.specs.declared.checks.Reply.the-variants.{Dropped, Ack
 use Rattle.client.specs.declared.state.Memory.{Memory}
 use Rattle.client.proofs.Answer.{mss-most}
 use Rattle.client.proofs.After.{cookie-told}
-
-abbrev pub outcome : Memory → Event → ℕ → Remarks → Outcome
-outcome m e n r = record { memory = m; event = e; written = n; remarks = r }
 
 abbrev pub refusedWith : Memory → Refusal → Outcome
 refusedWith m r = outcome m (events.Refused r) 0 noRemarks
@@ -170,11 +167,11 @@ module _ (m : Memory) (t : ℕ) (own server : List ℕ) (a : Attempt) (seg : Lis
       pub answer-done : at ≡ moved m t (m .cache) (m .bans) → b ≡ block server → cookie ≡ cookieIn g seg → mss ≡ mssIn g seg → r ≡ reportOf g seg
           → known ≡ withCache at (cacheAfter b cookie mss (at .cache))
           → negative ≡ isNegative g a seg → next ≡ withBans known (bansAfter t b (a .dest) negative (known .bans))
-          → outcome next (events.Answered n) 0 (r .remarks) ≡ step m answering
+          → {x : Outcome} → x ≡ outcome next (events.Answered n) 0 (r .remarks) → x ≡ step m answering
       unfolding after
-      answer-done et eb ec es er ek ei en =
+      answer-done et eb ec es er ek ei en ex =
           let done = step-done m answering (answer-checked ∙ clear) in
-          rw (en, ek, et, ec, es, er, eb, ei, was-counted (refusal theChecks) a seg theReply .1) (sym done)
+          ex ∙ rw (en, ek, et, ec, es, er, eb, ei, was-counted (refusal theChecks) a seg theReply .1) (sym done)
 
 -- Failure
 

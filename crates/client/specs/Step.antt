@@ -152,9 +152,12 @@ doneRemarks (failed t server port) = noRemarks
 
 -- A call: refused, it changes nothing
 
+abbrev pub outcome : Memory → Event → ℕ → Remarks → Outcome
+outcome m e n r = record { memory = m; event = e; written = n; remarks = r }
+
 abbrev pub outcomeOf : Memory → Call → Check → Outcome
-outcomeOf m c Clear = record { memory = after m c; event = doneEvent m c; written = length (doneOutput m c); remarks = doneRemarks c }
-outcomeOf m c (Refused r) = record { memory = m; event = events.Refused r; written = 0; remarks = noRemarks }
+outcomeOf m c Clear = outcome (after m c) (doneEvent m c) (length (doneOutput m c)) (doneRemarks c)
+outcomeOf m c (Refused r) = outcome m (events.Refused r) 0 noRemarks
 
 unfoldable pub step : Memory → Call → Outcome
 step m c = outcomeOf m c (callCheck m c)

@@ -17,6 +17,7 @@ use crate::outcome::Attempt;
 use crate::outcome::Event;
 use crate::outcome::Outcome;
 use crate::outcome::Started;
+use crate::outcome::new_outcome;
 use crate::state::Memory;
 use crate::state::PLACES;
 use endpoint::address::Family;
@@ -46,23 +47,18 @@ ghost use Rattle.client.specs.Refusals.{mostSent};
 ghost use Rattle.client.specs.Cache.{withCache};
 ghost use Rattle.client.specs.Bans.{withBans};
 ghost use Rattle.client.specs.Call.{Call};
-ghost use Rattle.client.specs.Step.{blank, neverStarted, startOf, sentWith, isGiven, cacheAfter, isUnacknowledged, hasCookie, bansAfter, step, outputOf, moved};
+ghost use Rattle.client.specs.Step.{blank, neverStarted, startOf, sentWith, isGiven, cacheAfter, isUnacknowledged, hasCookie, bansAfter, outcome, step, outputOf, moved};
 
 // What a call comes to on which nothing is remarked.
 fn unremarked(m: Memory, event: Event, written: usize) -> Outcome
-    ensures { λ r. ⌜ r ≡ record { memory = m; event = event; written = written; remarks = noRemarks } ⌝ }
+    ensures { λ r. ⌜ r ≡ outcome m event written noRemarks ⌝ }
 {
-    Outcome {
-        memory: m,
-        event,
-        written,
-        remarks: no_remarks(),
-    }
+    new_outcome(m, event, written, no_remarks())
 }
 
 // A refused call changes nothing.
 fn refused(m: Memory, why: Refusal) -> Outcome
-    ensures { λ r. ⌜ r ≡ record { memory = m; event = Event.Refused why; written = 0; remarks = noRemarks } ⌝ }
+    ensures { λ r. ⌜ r ≡ outcome m (Event.Refused why) 0 noRemarks ⌝ }
 {
     unremarked(m, Event::Refused(why), 0)
 }
@@ -249,12 +245,8 @@ pub fn answer(
             let mss = options.mss;
             let known = learn(next, b, cookie(option_area(seg), fast), mss);
             let negative = is_negative(a.sent, n, fast);
-            Outcome {
-                memory: ban_if(known, time, b, a.dest, negative),
-                event: Event::Answered(n),
-                written: 0,
-                remarks,
-            }
+            let learnt = ban_if(known, time, b, a.dest, negative);
+            new_outcome(learnt, Event::Answered(n), 0, remarks)
         }
     }
 }

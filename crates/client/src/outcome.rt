@@ -6,6 +6,7 @@ use segment::refusal::Refusal;
 use segment::refusal::number;
 ghost use mathlib.Core.Path.{_≡_};
 ghost use Rattle.client.specs.Call.{numberOfEvent, countOf};
+ghost use Rattle.client.specs.Step.{outcome};
 
 // An opening to be made, RFC 9293's active OPEN: own port, the server's port, our initial number, and own MSS.
 pub struct ActiveOpen {
@@ -43,6 +44,18 @@ pub struct Outcome {
 pub struct Started {
     pub memory: Memory,
     pub check: Check,
+}
+
+// What a call comes to. Every outcome is made here.
+pub fn new_outcome(memory: Memory, event: Event, written: usize, remarks: Remarks) -> Outcome
+    ensures { λ r. ⌜ r ≡ outcome memory event written remarks ⌝ }
+{
+    Outcome {
+        memory,
+        event,
+        written,
+        remarks,
+    }
 }
 
 // The number that a call returns: 0 where the call was done.

@@ -12,7 +12,7 @@ use Rattle.client.specs.declared.state.Memory.{Memory}
 use Rattle.client.specs.declared.outcome.Outcome.{Outcome}
 use Rattle.client.specs.declared.outcome.Started.{Started}
 use Rattle.client.specs.Call.{connect, answer, failed, numberOfEvent}
-use Rattle.client.specs.Step.{startOf, step, outputOf}
+use Rattle.client.specs.Step.{startOf, outcome, step, outputOf}
 use Rattle.text.specs.Line.{longest, isSilent}
 use Rattle.text.specs.Put.{placeAfter, badLine}
 use Rattle.client_player.specs.Request.{Request, start, call, requestIn}
@@ -23,7 +23,7 @@ use Rattle.client_player.specs.declared.play.Played.{Played}
 
 -- A start's outcome is that of a report.
 abbrev pub startOutcome : Started → Outcome
-startOutcome s = record { memory = s .memory; event = eventOf (s .check); written = 0; remarks = noRemarks }
+startOutcome s = outcome (s .memory) (eventOf (s .check)) 0 noRemarks
 
 abbrev pub outcomeOf : Memory → Request → Outcome
 outcomeOf m (start n) = startOutcome (startOf n)

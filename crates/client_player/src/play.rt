@@ -14,6 +14,7 @@ use client::outcome::Attempt;
 use client::outcome::Outcome;
 use client::outcome::Started;
 use client::outcome::event_number;
+use client::outcome::new_outcome;
 use client::state::Memory;
 use segment::options::codings_of;
 use segment::options::no_remarks;
@@ -46,12 +47,7 @@ fn started(s: Started) -> Outcome
     let memory = s.memory;
     let check = s.check;
     let event = event_of(check);
-    Outcome {
-        memory,
-        event,
-        written: 0,
-        remarks: no_remarks(),
-    }
+    new_outcome(memory, event, 0, no_remarks())
 }
 
 // Makes the request of an order, whose byte strings are in three buffers.

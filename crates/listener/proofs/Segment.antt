@@ -34,7 +34,7 @@ use Rattle.protocol.specs.Table.{isFree, isWaiting, freeSlot, newSlot, scanOf}
 use Rattle.protocol.specs.Call.{Call, segment, sender}
 use Rattle.protocol.specs.View.{ownAddress, slotAt, scanFor, view}
 use Rattle.protocol.specs.Refusals.{kindChecks, wireChecks}
-use Rattle.protocol.specs.Step.{cookiesEnabled, isEarly, isFresh, accepts, newEvent, newStatus, segmentEvent, heldUntil, codingFor, synAckFrom, writesSynAck, segmentAfter, moved, put, step, outputOf}
+use Rattle.protocol.specs.Step.{cookiesEnabled, isEarly, isFresh, accepts, newEvent, newStatus, segmentEvent, heldUntil, codingFor, synAckFrom, writesSynAck, segmentAfter, moved, put, outcome, step, outputOf}
 use Rattle.protocol.specs.declared.state.View.{View}
 use Rattle.protocol.specs.declared.state.Listener.{Listener}
 use Rattle.protocol.specs.declared.outcome.Event.{Event}
@@ -43,7 +43,7 @@ use Rattle.protocol.specs.declared.slots.Status.the-variants.{SynReceived}
 use Rattle.protocol.specs.declared.slots.Slot.{Slot}
 use Rattle.protocol.specs.declared.slots.Scan.{Scan}
 use Rattle.protocol.proofs.Table.{not-free}
-use Rattle.protocol.proofs.Step.{outcome, refusedWith, segment-refused, segment-writes-none, segment-writes, wired-formed}
+use Rattle.protocol.proofs.Step.{refusedWith, segment-refused, segment-writes-none, segment-writes, wired-formed}
 use Rattle.table.proofs.ScanOf.{in-table}
 use Rattle.decisions.specs.Parts.{hasKind, isOpening, openingChecks, openingCheck, enabledWith, optionIfEnabled, laterChecks, laterEvent, laterSlot}
 use Rattle.decisions.specs.declared.action.Opened.{Opened}

@@ -4,14 +4,15 @@
 // A listener is large, and a function that takes one and indexes its slots copies it. So each call goes through the table itself, in the copy that becomes
 // the next listener, which it makes only after its first checks; and each of its ends is a `return`. An opening scans the table, any other call that needs
 // a connection searches it.
+use crate::outcome::new_outcome;
 use cipher::expand_key;
 use decisions::action::cookies_enabled;
-use decisions::action::option_if_enabled;
 use decisions::action::is_opening;
 use decisions::action::later_event;
 use decisions::action::later_slot;
 use decisions::action::open_by_option;
 use decisions::action::open_plain;
+use decisions::action::option_if_enabled;
 use decisions::checks::OpeningCheck;
 use decisions::checks::Received;
 use decisions::checks::check_later;
@@ -68,30 +69,25 @@ ghost use Rattle.segment.specs.Remarks.{noRemarks};
 ghost use Rattle.protocol.specs.Table.{pendingAt};
 ghost use Rattle.protocol.specs.Call.{Call};
 ghost use Rattle.protocol.specs.Refusals.{releaseOf};
-ghost use Rattle.protocol.specs.Step.{blank, freshListener, neverStarted, startOf, step, outputOf, pendingNumber};
+ghost use Rattle.protocol.specs.Step.{blank, freshListener, neverStarted, startOf, outcome, step, outputOf, pendingNumber};
 
 // What a call comes to on which nothing is remarked.
 fn unremarked(l: Listener, event: Event, written: usize) -> Outcome
-    ensures { λ r. ⌜ r ≡ record { listener = l; event = event; written = written; remarks = noRemarks } ⌝ }
+    ensures { λ r. ⌜ r ≡ outcome l event written noRemarks ⌝ }
 {
-    Outcome {
-        listener: l,
-        event,
-        written,
-        remarks: no_remarks(),
-    }
+    new_outcome(l, event, written, no_remarks())
 }
 
 // A refused call changes nothing.
 fn refused(l: Listener, why: Refusal) -> Outcome
-    ensures { λ r. ⌜ r ≡ record { listener = l; event = Event.Refused why; written = 0; remarks = noRemarks } ⌝ }
+    ensures { λ r. ⌜ r ≡ outcome l (Event.Refused why) 0 noRemarks ⌝ }
 {
     unremarked(l, Event::Refused(why), 0)
 }
 
 // Done, with nothing written and no verdict.
 fn done(l: Listener) -> Outcome
-    ensures { λ r. ⌜ r ≡ record { listener = l; event = Event.Done; written = 0; remarks = noRemarks } ⌝ }
+    ensures { λ r. ⌜ r ≡ outcome l Event.Done 0 noRemarks ⌝ }
 {
     unremarked(l, Event::Done, 0)
 }
@@ -241,12 +237,7 @@ pub fn segment(l: Listener, time: u64, src: &[u8], seg: &[u8], iss: u32, out: &m
                             cookie,
                         );
                         next.clock = time;
-                        return Outcome {
-                            listener: next,
-                            event: Event::Retransmission,
-                            written,
-                            remarks,
-                        };
+                        return new_outcome(next, Event::Retransmission, written, remarks);
                     }
                     OpeningCheck::New => {
                         let i = scan.free;
@@ -272,12 +263,7 @@ pub fn segment(l: Listener, time: u64, src: &[u8], seg: &[u8], iss: u32, out: &m
                             );
                             next.slots[i] = new;
                             next.clock = time;
-                            return Outcome {
-                                listener: next,
-                                event: Event::Regular,
-                                written,
-                                remarks,
-                            };
+                            return new_outcome(next, Event::Regular, written, remarks);
                         }
                         let keys = next.keys;
                         let payload = payload_after(seg, h.offset);
@@ -297,12 +283,7 @@ pub fn segment(l: Listener, time: u64, src: &[u8], seg: &[u8], iss: u32, out: &m
                         );
                         next.slots[i] = new;
                         next.clock = time;
-                        return Outcome {
-                            listener: next,
-                            event,
-                            written,
-                            remarks,
-                        };
+                        return new_outcome(next, event, written, remarks);
                     }
                 }
             }

@@ -1,9 +1,25 @@
-// An event in document 01's numbers, and the accepted part of a segment.
+// An outcome, an event in document 01's numbers, and the accepted part of a segment.
 use protocol::outcome::Event;
+use protocol::outcome::Outcome;
+use protocol::state::Listener;
 use segment::header::payload;
+use segment::options::Remarks;
 use segment::refusal::number;
 ghost use mathlib.Core.Path.{_≡_};
 ghost use Rattle.protocol.specs.Call.{numberOfEvent, acceptedOf, acceptedPart};
+ghost use Rattle.protocol.specs.Step.{outcome};
+
+// What a call comes to. Every outcome is made here.
+pub fn new_outcome(listener: Listener, event: Event, written: usize, remarks: Remarks) -> Outcome
+    ensures { λ r. ⌜ r ≡ outcome listener event written remarks ⌝ }
+{
+    Outcome {
+        listener,
+        event,
+        written,
+        remarks,
+    }
+}
 
 // The number that a call returns: 0 where the call was done.
 pub fn event_number(e: Event) -> u8

@@ -12,7 +12,7 @@ use Rattle.protocol.specs.declared.outcome.Outcome.{Outcome}
 use Rattle.protocol.specs.declared.outcome.Started.{Started}
 use Rattle.segment.specs.Remarks.{noRemarks}
 use Rattle.protocol.specs.Call.{segment, settings, key, abandon, resend, close, numberOfEvent, acceptedPart}
-use Rattle.protocol.specs.Step.{startOf, step, outputOf}
+use Rattle.protocol.specs.Step.{startOf, outcome, step, outputOf}
 use Rattle.text.specs.Line.{longest, isSilent}
 use Rattle.text.specs.Put.{placeAfter, badLine}
 use Rattle.player.specs.Request.{Request, start, call, requestIn}
@@ -23,7 +23,7 @@ use Rattle.player.specs.declared.play.Played.{Played}
 
 -- A start's outcome is that of any other call that is no segment.
 abbrev pub startOutcome : Started → Outcome
-startOutcome s = record { listener = s .listener; event = eventOf (s .check); written = 0; remarks = noRemarks }
+startOutcome s = outcome (s .listener) (eventOf (s .check)) 0 noRemarks
 
 abbrev pub outcomeOf : Listener → Request → Outcome
 outcomeOf l (start own port k) = startOutcome (startOf own port k)

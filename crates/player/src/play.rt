@@ -15,6 +15,7 @@ use listener::calls::set_settings;
 use listener::calls::start;
 use listener::outcome::accepted_part;
 use listener::outcome::event_number;
+use listener::outcome::new_outcome;
 use protocol::outcome::Outcome;
 use protocol::outcome::Started;
 use protocol::state::Listener;
@@ -50,12 +51,7 @@ fn started(s: Started) -> Outcome
     let listener = s.listener;
     let check = s.check;
     let event = event_of(check);
-    Outcome {
-        listener,
-        event,
-        written: 0,
-        remarks: no_remarks(),
-    }
+    new_outcome(listener, event, 0, no_remarks())
 }
 
 fn release(l: Listener, established: bool, time: u64, addr: &[u8], port: u16) -> Outcome

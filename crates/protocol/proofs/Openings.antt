@@ -24,7 +24,7 @@ use Rattle.protocol.specs.Table.{isLive, isPending, isFree, freeSlot, ne
 use Rattle.protocol.specs.Call.{segment, sender}
 use Rattle.protocol.specs.View.{known, view}
 use Rattle.protocol.specs.Refusals.{wireChecks, callCheck}
-use Rattle.protocol.specs.Step.{cookiesEnabled, accepts, isEarly, isFresh, newEvent, newStatus, carriedAt, codingFor, synAckTo, put, after, step}
+use Rattle.protocol.specs.Step.{cookiesEnabled, accepts, isEarly, isFresh, newEvent, newStatus, carriedAt, codingFor, synAckTo, put, after, outcome, step}
 use Rattle.protocol.specs.declared.slots.Slot.{Slot}
 use Rattle.protocol.specs.declared.state.View.{View}
 use Rattle.protocol.specs.declared.state.Listener.{Listener}
@@ -139,13 +139,10 @@ module _ (l : Listener) (t : ℕ) (src seg : List ℕ) (iss out-len : ℕ) (syn 
   -- its event
   pub step-new : (early : Bool) → isEarly (view l t (sender src seg)) (block src) seg ≡ early → callCheck l (segment t src seg iss out-len) ≡ Clear
       → step l (segment t src seg iss out-len)
-      ≡ record {
-        listener = put l t (freePlace t (l .slots)) (slotFor early src seg iss (accepts (l .settings) seg));
-        event = newEvent early (accepts (l .settings) seg);
-        written = length (synAckTo (view l t (sender src seg)) src (slotFor early src seg iss (accepts (l .settings) seg))
-            (isFresh (view l t (sender src seg)) (block src) seg) (codingFor (view l t (sender src seg)) seg) out-len);
-        remarks = remarksOf (l .settings .codings) seg;
-      }
+      ≡ outcome (put l t (freePlace t (l .slots)) (slotFor early src seg iss (accepts (l .settings) seg))) (newEvent early (accepts (l .settings) seg))
+      (length (synAckTo (view l t (sender src seg)) src (slotFor early src seg iss (accepts (l .settings) seg))
+      (isFresh (view l t (sender src seg)) (block src) seg) (codingFor (view l t (sender src seg)) seg) out-len))
+      (remarksOf (l .settings .codings) seg)
   unfolding step after
   step-new true e c = rw (c, syn, new, e)
   step-new false e c = rw (c, syn, new, e)

@@ -23,7 +23,7 @@ use Rattle.protocol.specs.Call.{Call, segment, settings, key, resend, se
 use Rattle.protocol.specs.View.{ownAddress, view, viewOf}
 use Rattle.protocol.specs.Refusals.{inRange, isKey, isReleasable, releaseOf, outputChecks, kindChecks, wireChecks, callCheck}
 use Rattle.protocol.specs.Table.{isWaiting}
-use Rattle.protocol.specs.Step.{doneEvent, doneOutput, doneRemarks, after, outcomeOf, step, outputIf, outputOf}
+use Rattle.protocol.specs.Step.{doneEvent, doneOutput, doneRemarks, after, outcome, outcomeOf, step, outputIf, outputOf}
 use Rattle.protocol.specs.declared.state.Settings.{Settings}
 use Rattle.protocol.specs.declared.state.LocalEndpoint.{LocalEndpoint}
 use Rattle.protocol.specs.declared.state.View.{View}
@@ -110,12 +110,12 @@ module _ (l : Listener) (t : ℕ) where
 -- A call is refused or done
 
 module _ (l : Listener) (c : Call) where
-  pub step-refused : {r : Refusal} → callCheck l c ≡ Refused r → step l c ≡ record { listener = l; event = events.Refused r; written = 0; remarks = noRemarks }
+  pub step-refused : {r : Refusal} → callCheck l c ≡ Refused r → step l c ≡ outcome l (events.Refused r) 0 noRemarks
   unfolding step
   step-refused e = ap (outcomeOf l c) e
 
   pub step-done : callCheck l c ≡ Clear
-      → step l c ≡ record { listener = after l c; event = doneEvent (viewOf l c) c; written = length (doneOutput (viewOf l c) c); remarks = doneRemarks (viewOf l c) c }
+      → step l c ≡ outcome (after l c) (doneEvent (viewOf l c) c) (length (doneOutput (viewOf l c) c)) (doneRemarks (viewOf l c) c)
   unfolding step
   step-done e = ap (outcomeOf l c) e
 

@@ -31,7 +31,7 @@ use Rattle.protocol.specs.Table.{isWaiting}
 use Rattle.protocol.specs.Call.{Call, segment, settings, key, abandon, resend, close, sender}
 use Rattle.protocol.specs.View.{ownAddress, scanFor, view}
 use Rattle.protocol.specs.Refusals.{inRange, isKey, isReleasable, releaseOf, outputChecks, kindChecks, wireChecks, callCheck}
-use Rattle.protocol.specs.Step.{segmentEvent, heldUntil, slotAfter, freshWith, codingFor, synAckFrom, synAckTo, writesSynAck, segmentOutput, segmentAfter, moved, freed, storedSettings, withKey, after, step, outputOf}
+use Rattle.protocol.specs.Step.{segmentEvent, heldUntil, slotAfter, freshWith, codingFor, synAckFrom, synAckTo, writesSynAck, segmentOutput, segmentAfter, moved, freed, storedSettings, withKey, after, outcome, step, outputOf}
 use Rattle.protocol.specs.declared.state.Settings.{Settings}
 use Rattle.protocol.specs.declared.state.LocalEndpoint.{LocalEndpoint}
 use Rattle.protocol.specs.declared.state.View.{View}
@@ -42,9 +42,6 @@ use Rattle.protocol.specs.declared.outcome.Outcome.{Outcome}
 use Rattle.protocol.specs.declared.slots.Slot.{Slot}
 use Rattle.protocol.specs.declared.slots.Scan.{Scan}
 use Rattle.protocol.proofs.Refusals.{checked-settings, checked-key, checked-release, checked-resend, checked-segment, step-refused, step-done, output-refused, output-done}
-
-abbrev pub outcome : Listener → Event → ℕ → Remarks → Outcome
-outcome l e n r = record { listener = l; event = e; written = n; remarks = r }
 
 abbrev pub refusedWith : Listener → Refusal → Outcome
 refusedWith l r = outcome l (events.Refused r) 0 noRemarks
@@ -226,9 +223,9 @@ pub unwritten : {r x s : Outcome} {bytes : List ℕ} (out : List ℕ) → r ≡ 
 unwritten out e q = (e ∙ sym (q .0), ap (λ (z : List ℕ). overwrite z out) (sym (q .1)))
 
 pub written-over : {l : Listener} {e : Event} {n : ℕ} {r : Remarks} {s : Outcome} {bytes these last : List ℕ} (out : List ℕ)
-    → (outcome l e (length these) r ≡ s) × (bytes ≡ these) → (n ≡ length these) × (last ≡ overwrite these out)
-    → (outcome l e n r ≡ s) × (last ≡ overwrite bytes out)
-written-over out q w = (rw (w .0) (q .0), w .1 ∙ ap (λ (z : List ℕ). overwrite z out) (sym (q .1)))
+    → (outcome l e (length these) r ≡ s) × (bytes ≡ these) → (n ≡ length these) × (last ≡ overwrite these out) → {o : Outcome} → o ≡ outcome l e n r
+    → (o ≡ s) × (last ≡ overwrite bytes out)
+written-over out q w eo = (eo ∙ rw (w .0) (q .0), w .1 ∙ ap (λ (z : List ℕ). overwrite z out) (sym (q .1)))
 
 -- a SYN-ACK sent again, from the slot that was found
 module _ (l : Listener) (t : ℕ) (a : List ℕ) (p out-len : ℕ) (out : List ℕ) where

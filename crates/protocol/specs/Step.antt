@@ -244,10 +244,12 @@ after l (close t a p) = freed l t (record { address = a; port = p })
 
 -- A call: refused, it changes nothing
 
+abbrev pub outcome : Listener → Event → ℕ → Remarks → Outcome
+outcome l e n r = record { listener = l; event = e; written = n; remarks = r }
+
 abbrev pub outcomeOf : Listener → Call → Check → Outcome
-outcomeOf l c Clear =
-    record { listener = after l c; event = doneEvent (viewOf l c) c; written = length (doneOutput (viewOf l c) c); remarks = doneRemarks (viewOf l c) c }
-outcomeOf l c (Refused r) = record { listener = l; event = events.Refused r; written = 0; remarks = noRemarks }
+outcomeOf l c Clear = outcome (after l c) (doneEvent (viewOf l c) c) (length (doneOutput (viewOf l c) c)) (doneRemarks (viewOf l c) c)
+outcomeOf l c (Refused r) = outcome l (events.Refused r) 0 noRemarks
 
 unfoldable pub step : Listener → Call → Outcome
 step l c = outcomeOf l c (callCheck l c)

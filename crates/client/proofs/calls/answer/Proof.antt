@@ -91,7 +91,7 @@ returns c =
 
 returns-2 : tie.Need-returns-2
 returns-2 c =
-    let j = judged c in
+    let j = judged (c .before) in
     let l = learnt j in
     let o = brought l in
     let b = named-at o in
@@ -99,7 +99,7 @@ returns-2 c =
     let report = parsed (area o) .segment-options .ensures in
     let negative = answer-negative (a .m) (a .time) (a .own .now) (a .server .now) (a .a) (a .seg .now) (a .codings) (acknowledged (counted b)) report (j .is-negative .ensures) in
     answer-done (a .m) (a .time) (a .own .now) (a .server .now) (a .a) (a .seg .now) (a .codings) (acknowledged (counted b))
-    (timed (checked (counted b)) .at-time .ensures) (named b) (brings o .0) (brings o .1) report (l .learn .ensures) negative (c .ban-if .ensures)
+    (timed (checked (counted b)) .at-time .ensures) (named b) (brings o .0) (brings o .1) report (l .learn .ensures) negative (c .before .ban-if .ensures) (c .new-outcome .ensures)
 
 pub answer-spec : {M : Type 1} → statement M
 answer-spec =
@@ -107,4 +107,4 @@ answer-spec =
     (tie.spec
     (λ c κs. search needs) (λ c κs. search needs) (λ c. search needs) (λ c κs. search needs) (λ c. search needs)
     (λ c κs. search needs) (λ c κs. search needs) (λ c κs. search needs) (λ c κs. search needs) learn-requires
-    (λ c κs. search needs) ban-if-requires returns returns-2)
+    (λ c κs. search needs) ban-if-requires (λ c κs. search needs) returns returns-2)

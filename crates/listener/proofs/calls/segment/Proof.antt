@@ -210,14 +210,14 @@ returns-3 c =
 
 returns-4 : tie.Need-returns-4 Inv-loop μ-loop Inv-loop2 μ-loop2
 returns-4 c =
-    let wrote = c .before .before in
+    let wrote = c .before .before .before in
     let area = wrote .before .before .before .before in
     let told = area .before in
     let o = told .before .before in
     let k = known o in
     let a = start (n k) .args in
     written-over (a .out .now) (repeated (a .l) (a .time) (a .src .now) (a .seg .now) (a .iss) (length (a .out .now)) (read (n k) .0) (read (n k) .1) (block-is k) (kind (n k) .kind-of .ensures) (is-one o)
-    (scan-is o) (slot-is o) (o .check-opening .ensures) (told .enum-told .given .1) (area .area-within .ensures, wrote .before .before .before .read-options .ensures) (replicate 8 0)) (wrote .write-from .ensures)
+    (scan-is o) (slot-is o) (o .check-opening .ensures) (told .enum-told .given .1) (area .area-within .ensures, wrote .before .before .before .read-options .ensures) (replicate 8 0)) (wrote .write-from .ensures) (c .new-outcome .ensures)
 
 mul-new : tie.Need-mul-new Inv-loop μ-loop Inv-loop2 μ-loop2
 mul-new c = omega (arith, vacant (offered (c .before .before .before .before .before .before)))
@@ -227,7 +227,7 @@ element-set-from-new c = omega (arith, vacant (offered (c .before .before .befor
 
 returns-5 : tie.Need-returns-5 Inv-loop μ-loop Inv-loop2 μ-loop2
 returns-5 c =
-    let wrote = c .before .before in
+    let wrote = c .before .before .before in
     let made = wrote .before .before in
     let counted = made .before .before in
     let told = offered counted in
@@ -236,7 +236,7 @@ returns-5 c =
     let a = start (n k) .args in
     written-over (a .out .now) (opened-plain (a .l) (a .time) (a .src .now) (a .seg .now) (a .iss) (length (a .out .now)) (read (n k) .0) (read (n k) .1) (block-is k) (kind (n k) .kind-of .ensures) (is-one o)
     (scan-is o) (slot-is o) (o .check-opening .ensures) (told .enum-told2 .given .1) (counted .before .before .cookies-enabled .ensures) (read-from counted .before .area-within2 .ensures, read-from counted .read-options2 .ensures) (counted .before .option-if-enabled .ensures)
-    (sym (counted .is-counted .ensures) ∙ not-true _ (made .before .if3 .taken)) (made .open-plain .ensures) (replicate 8 0)) (wrote .write-from2 .ensures)
+    (sym (counted .is-counted .ensures) ∙ not-true _ (made .before .if3 .taken)) (made .open-plain .ensures) (replicate 8 0)) (wrote .write-from2 .ensures) (c .new-outcome2 .ensures)
 
 mul-new-2 : tie.Need-mul-new-2 Inv-loop μ-loop Inv-loop2 μ-loop2
 mul-new-2 c = omega (arith, vacant (offered (c .before .before .before .before .before .before .before .before .before .before .before)))
@@ -246,7 +246,7 @@ element-set-from-new-2 c = omega (arith, vacant (offered (c .before .before .bef
 
 returns-6 : tie.Need-returns-6 Inv-loop μ-loop Inv-loop2 μ-loop2
 returns-6 c =
-    let wrote = c .before .before in
+    let wrote = c .before .before .before in
     let coded = wrote .before in
     let made = coded .before .before .before .before in
     let counted = made .before .before .before .before in
@@ -256,7 +256,7 @@ returns-6 c =
     let a = start (n k) .args in
     written-over (a .out .now) (opened-by-option (a .l) (a .time) (a .src .now) (a .seg .now) (a .iss) (length (a .out .now)) (read (n k) .0) (read (n k) .1) (block-is k) (kind (n k) .kind-of .ensures) (is-one o)
     (scan-is o) (slot-is o) (o .check-opening .ensures) (told .enum-told2 .given .1) (counted .before .before .cookies-enabled .ensures) (read-from counted .before .area-within2 .ensures, read-from counted .read-options2 .ensures) (counted .before .option-if-enabled .ensures)
-    (sym (counted .is-counted .ensures) ∙ not-false _ (made .before .before .before .if3 .left)) (made .before .payload-after .ensures) (coded .coding-of .ensures) (made .open-by-option .result) (made .open-by-option .ensures)) (wrote .write-from3 .ensures)
+    (sym (counted .is-counted .ensures) ∙ not-false _ (made .before .before .before .if3 .left)) (made .before .payload-after .ensures) (coded .coding-of .ensures) (made .open-by-option .result) (made .open-by-option .ensures)) (wrote .write-from3 .ensures) (c .new-outcome3 .ensures)
 
 loop2-holds : tie.Need-loop2-holds Inv-loop μ-loop Inv-loop2 μ-loop2
 loop2-holds c =
@@ -312,12 +312,13 @@ segment-spec =
     (λ c. search needs) (λ c κs. search needs) (λ c. search needs) (λ c. search needs) loop-again
     (λ c κs. search needs) mul-s-2 element-copy-out-s-2 (λ c κs. search needs) (λ c κs. search needs)
     (λ c. search needs) (λ c κs. search needs) returns-3 (λ c. search needs) (λ c κs. search needs)
-    (λ c κs. search needs) (λ c κs. search needs) (λ c. search needs) returns-4 (λ c. search needs)
-    (λ c κs. search needs) (λ c κs. search needs) (λ c κs. search needs) (λ c κs. search needs) (λ c κs. search needs)
-    (λ c κs. search needs) (λ c κs. search needs) mul-new element-set-from-new (λ c. search needs) returns-5
-    (λ c κs. search needs) (λ c κs. search needs) (λ c κs. search needs) (λ c κs. search needs) mul-new-2
-    element-set-from-new-2 (λ c. search needs) returns-6 loop2-holds (λ c. search needs) (λ c. search needs)
-    (λ c κs. search needs) (λ c. search needs) (λ c. search needs) loop2-again (λ c κs. search needs) mul-s-4
-    element-copy-out-s-4 (λ c κs. search needs) (λ c κs. search needs) (λ c. search needs) (λ c κs. search needs)
-    returns-7 (λ c. search needs) (λ c. search needs) add-later-slot (λ c κs. search needs) mul-changed
-    element-set-from-changed (λ c κs. search needs) (λ c κs. search needs) returns-8)
+    (λ c κs. search needs) (λ c κs. search needs) (λ c κs. search needs) (λ c. search needs) returns-4
+    (λ c. search needs) (λ c κs. search needs) (λ c κs. search needs) (λ c κs. search needs) (λ c κs. search needs)
+    (λ c κs. search needs) (λ c κs. search needs) (λ c κs. search needs) mul-new element-set-from-new
+    (λ c κs. search needs) (λ c. search needs) returns-5 (λ c κs. search needs) (λ c κs. search needs)
+    (λ c κs. search needs) (λ c κs. search needs) mul-new-2 element-set-from-new-2 (λ c κs. search needs)
+    (λ c. search needs) returns-6 loop2-holds (λ c. search needs) (λ c. search needs) (λ c κs. search needs)
+    (λ c. search needs) (λ c. search needs) loop2-again (λ c κs. search needs) mul-s-4 element-copy-out-s-4
+    (λ c κs. search needs) (λ c κs. search needs) (λ c. search needs) (λ c κs. search needs) returns-7
+    (λ c. search needs) (λ c. search needs) add-later-slot (λ c κs. search needs) mul-changed element-set-from-changed
+    (λ c κs. search needs) (λ c κs. search needs) returns-8)
