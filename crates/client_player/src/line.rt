@@ -28,13 +28,7 @@ pub(crate) fn put_outcome(out: &mut [u8], o: Outcome, lent: &[u8]) -> usize
 }
 
 // Puts the fields of an outcome.
-fn put_fields(
-    out: &mut [u8],
-    event: Event,
-    written: &[u8],
-    kept: bool,
-    remarks: Remarks,
-) -> usize
+fn put_fields(out: &mut [u8], event: Event, written: &[u8], kept: bool, remarks: Remarks) -> usize
     ensures { λ r. ⌜ r ≡ placeAfter 0 (length (lineOf event (now (written .entry)) kept remarks)) (length (now (out .entry))) ⌝ }
     ensures { λ _. ⌜ now (out .exit) ≡ laid 0 (lineOf event (now (written .entry)) kept remarks) (now (out .entry)) ⌝ }
 {

@@ -29,7 +29,15 @@ pub(crate) fn put_outcome(out: &mut [u8], o: Outcome, lent: &[u8], part: &[u8]) 
     let remarks = o.remarks;
     let written = o.written;
     let kept = is_kept(lent, written);
-    put_fields(out, event, pending(l), first(lent, written), part, kept, remarks)
+    put_fields(
+        out,
+        event,
+        pending(l),
+        first(lent, written),
+        part,
+        kept,
+        remarks,
+    )
 }
 
 // Puts the fields of an outcome.

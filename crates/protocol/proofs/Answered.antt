@@ -17,7 +17,7 @@ use Rattle.segment.specs.declared.options.Options.{Options}
 use Rattle.segment.specs.declared.write.SynAck.{SynAck}
 use Rattle.segment.proofs.Cookie.{coding-counts}
 use Rattle.segment.proofs.OneFamily.{family-back, right-family}
-use Rattle.segment.proofs.ReadBack.{ReadBack, fastOpenFor}
+use Rattle.segment.proofs.ReadBack.{ReadBack, fastOpenFor, remarksFor}
 use Rattle.segment.proofs.Exchange.{syn-ack-can, syn-ack-without, syn-ack-fits, syn-ack-read}
 use Rattle.endpoint.specs.Address.{block}
 use Rattle.protocol.specs.Cookie.{cookieUnder}
@@ -107,8 +107,9 @@ module _ (l : Listener) (t : ℕ) (src seg : List ℕ) (iss out-len : ℕ) (o : 
               ap (λ (x : Options). x .fast) (r .options) ∙ ap (λ (b : Bool). fastOpenFor b (codingFor v seg) issued) f ∙ found-eight (codingFor v seg) issued (cookie-eight (l .keys .present) (block src)),
               r .bytes f,
             );
+        place = λ f g k. read-new g (subst (λ (c : Coding). countsCoding g c ≡ true) (sym coded) k) .remarks ∙ ap remarksFor f;
         short = λ f. written-is ∙ ap synAckLength f;
         none = λ f g.
             let r = read-in g New refl (reply-is ∙ syn-ack-without (ownAddress (l .local)) src (fieldsIn New) (codingFor v seg) New issued issued out-len f) in
-            ap (λ (x : Options). x .fast) (r .options) ∙ ap (λ (b : Bool). fastOpenFor b New issued) f;
+            (ap (λ (x : Options). x .fast) (r .options) ∙ ap (λ (b : Bool). fastOpenFor b New issued) f, r .remarks ∙ ap remarksFor f);
       }

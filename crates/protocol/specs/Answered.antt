@@ -1,4 +1,4 @@
--- Document 02, Item 4: the SYN-ACK to a new opening, as any end reads it that counts the coding of the opening's option.
+-- Document 02, Items 4 and 7: the SYN-ACK to a new opening, as any end reads it that counts the coding of the opening's option.
 -- Assumes nothing.
 use Prim.Native.Nat.{ℕ, _+_, _^_, _<_}
 use mathlib.Core.Path.{_≡_}
@@ -7,6 +7,7 @@ use mathlib.Core.List.{List}
 use Rattle.lists.specs.Bytes.{Bytes}
 use Rattle.segment.specs.Header.{fieldsOf, kindOf, optionArea}
 use Rattle.segment.specs.Options.{prefixLength, countsCoding, optionsOf, cookieBytes, codingOf}
+use Rattle.segment.specs.Remarks.{noRemarks, remarksOf}
 use Rattle.segment.specs.declared.refusal.Check.the-variants.{Clear}
 use Rattle.segment.specs.declared.header.Kind.the-variants.{Syn}
 use Rattle.segment.specs.declared.options.Coding.{Coding}
@@ -56,6 +57,8 @@ module _ (l : Listener) (t : ℕ) (src seg : List ℕ) (iss out-len : ℕ) where
     pub fresh : isFresh seen (block src) seg ≡ true → (g : Codings) → countsCoding g asked ≡ true
         → (optionsOf g reply .fast ≡ Cookie asked (4 + prefixLength asked) 8)
         × (cookieBytes (optionsOf g reply .fast) (optionArea reply) ≡ cookieUnder (l .keys .present) (block src))
+    -- and nothing is remarked on its options but its place, behind the MSS
+    pub place : isFresh seen (block src) seg ≡ true → (g : Codings) → countsCoding g asked ≡ true → remarksOf g reply ≡ record { skipped = 0; used = 5; broken = 0 }
     -- without: 24 bytes, and no Fast Open option is found under either setting
     pub short : isFresh seen (block src) seg ≡ false → step l call .written ≡ 24
-    pub none : isFresh seen (block src) seg ≡ false → (g : Codings) → optionsOf g reply .fast ≡ Absent
+    pub none : isFresh seen (block src) seg ≡ false → (g : Codings) → (optionsOf g reply .fast ≡ Absent) × (remarksOf g reply ≡ noRemarks)

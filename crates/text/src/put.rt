@@ -82,14 +82,7 @@ pub fn put_bad_line(out: &mut [u8], at: usize) -> usize
 }
 
 // Puts a line's last four words and its line feed: whether the bytes past the written ones are as they were, and what was remarked on the options.
-pub fn put_end(
-    out: &mut [u8],
-    at: usize,
-    kept: bool,
-    skipped: u64,
-    used: u64,
-    broken: u64,
-) -> usize
+pub fn put_end(out: &mut [u8], at: usize, kept: bool, skipped: u64, used: u64, broken: u64) -> usize
     ensures { λ r. ⌜ r ≡ placeAfter at (length (fields (endWords kept skipped used broken))) (length (now (out .entry))) ⌝ }
     ensures { λ _. ⌜ now (out .exit) ≡ laid at (fields (endWords kept skipped used broken)) (now (out .entry)) ⌝ }
 {

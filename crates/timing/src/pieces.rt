@@ -126,7 +126,10 @@ fn add_options(digest: u64, area: &[u8; 32]) -> u64 {
     let mss = options.mss;
     let fast = options.fast;
     let counted = wrapping_add_u64(mss_part(mss), cookie_part(fast));
-    wrapping_add_u64(digest, wrapping_add_u64(counted, remarks_part(found.remarks)))
+    wrapping_add_u64(
+        digest,
+        wrapping_add_u64(counted, remarks_part(found.remarks)),
+    )
 }
 
 // An area of five options and padding, with another segment size each turn.
