@@ -162,6 +162,7 @@ pub struct Report {
     pub remarks: Remarks,
 }
 
+// Nothing is remarked.
 pub fn no_remarks() -> Remarks
     ensures { λ r. ⌜ r ≡ noRemarks ⌝ }
 {
