@@ -48,6 +48,12 @@ module _ {A : Type 0} where
   sum-set w (x ∷ xs) zero y d h = omega arith
   sum-set w (x ∷ xs) (suc i) y d h = omega (arith, sum-set w xs i y d (le-of-suc-le-suc h))
 
+  -- by one that weighs no more, wherever it stands
+  pub sum-set-most : (w : A → ℕ) (xs : List A) (i : ℕ) (y d : A) → w y ≤ w (getD xs i d) → sum w (set xs i y) ≤ sum w xs
+  sum-set-most w [] i y d h = omega arith
+  sum-set-most w (x ∷ xs) zero y d h = omega (arith, h)
+  sum-set-most w (x ∷ xs) (suc i) y d h = omega (arith, sum-set-most w xs i y d h)
+
   -- two weights that agree where a test fails, and no element passes it
   sum-off : (p : A → Bool) (u v : A → ℕ) → ((x : A) → p x ≡ false → u x ≡ v x) → (xs : List A) → tally p xs ≡ 0 → sum u xs ≡ sum v xs
   sum-off p u v h [] z = refl
@@ -131,7 +137,11 @@ module _ {A : Type 0} where
   all-replicate Q zero x q = tt
   all-replicate Q (suc n) x q = (q, all-replicate Q n x q)
 
-  -- a weight that is no more than another where the rule holds
+  -- a weight that is another, or no more than another, where the rule holds
+  pub sum-ext-all : (Q : A → Type 0) (u v : A → ℕ) → ((x : A) → Q x → u x ≡ v x) → (xs : List A) → All Q xs → sum u xs ≡ sum v xs
+  sum-ext-all Q u v h [] a = refl
+  sum-ext-all Q u v h (x ∷ xs) a = ap₂ _+_ (h x (a .0)) (sum-ext-all Q u v h xs (a .1))
+
   pub sum-le-all : (Q : A → Type 0) (u v : A → ℕ) → ((x : A) → Q x → u x ≤ v x) → (xs : List A) → All Q xs → sum u xs ≤ sum v xs
   sum-le-all Q u v h [] a = omega arith
   sum-le-all Q u v h (x ∷ xs) a = omega (arith, h x (a .0), sum-le-all Q u v h xs (a .1))

@@ -24,18 +24,18 @@ use Rattle.endpoint.specs.Checks.{isUntimely, timely, addressed}
 use Rattle.endpoint.specs.declared.address.Family.{Family}
 use Rattle.lists.proofs.Bools.{one-test}
 use Rattle.endpoint.proofs.Names.{short}
-use Rattle.endpoint.proofs.Blocks.{zero-block}
+use Rattle.endpoint.proofs.Blocks.{zero-block, size-of-family}
 use Rattle.lists.proofs.Sums.{sum-zero, some-passes, first-passes, none-passes, All, all-set, all-at, all-replicate, sum-le-all}
 use Rattle.endpoint.proofs.Clear.{Passed, every-check}
 use Rattle.protocol.specs.Cookie.{Carried, carriedBy, rightUnder, right}
-use Rattle.protocol.specs.Table.{isLive, isWaiting, isEstablished, isFree, afterReset, freeSlot, newSlot, withStatus, holdsPeer, pendingAt}
+use Rattle.protocol.specs.Table.{isLive, isWaiting, isEstablished, isFree, afterReset, freeSlot, newSlot, withStatus, holdsPeer, pendingAt, pendingFrom}
 use Rattle.protocol.specs.Call.{Call, segment, settings, key, abandon, resend, close, sender, timeOf, numberOfEvent, verdictOf, acceptedOf, acceptedPart, early}
 use Rattle.protocol.specs.View.{known, scanFor, view, viewOf}
 use Rattle.protocol.specs.Refusals.{kindChecks, checks, callCheck}
 use Rattle.protocol.specs.Step as steps
 use Rattle.protocol.specs.Step.{freshListener, startChecks, startedBy, startOf, newEvent, openingEvent, segmentEvent, doneEvent, heldUntil, slotAfter, moved, put, segmentAfter, freed, storedSettings, after, outcomeOf, step, pendingNumber}
-use Rattle.protocol.specs.Journal.{Mark, markPlain, markEarly, markOpen, markHeld, Entry, PreviousKey, noKey, aKey, Journal, freshJournal, pendingOf, named, has, kept, only, removed, completed, resetMark, wasReset, with, amended, rightBefore, hasRight, opensEarly, newMark, opened, atTime, segmentNoted, noted, feed, Decision, newDecision, openingDecision, segmentDecision, doneDecision, journalDecision}
-use Rattle.protocol.specs.Demand3.{segmentOf, listenerDecision, listenerAfter, listenerDecisions, numbered, journalAfter, journalDecisions, Demand3}
+use Rattle.protocol.specs.Journal.{Mark, markPlain, markEarly, markOpen, markHeld, Entry, PreviousKey, noKey, aKey, Journal, freshJournal, pendingOf, pendingFor, named, has, kept, only, removed, completed, resetMark, wasReset, with, amended, rightBefore, hasRight, opensEarly, newMark, opened, atTime, segmentNoted, noted, feed, Decision, newDecision, openingDecision, segmentDecision, doneDecision, journalDecision}
+use Rattle.protocol.specs.Demand3.{segmentOf, listenerDecision, listenerAfter, listenerDecisions, numbered, journalAfter, journalDecisions, addressPending, Demand3}
 use Rattle.protocol.specs.declared.slots.Status.{Status}
 use Rattle.protocol.specs.declared.slots.Status.the-variants.{Free, SynReceived, SynReceivedEarly, ResetHeld, Established}
 use Rattle.protocol.specs.declared.slots.Slot.{Slot}
@@ -43,9 +43,10 @@ use Rattle.protocol.specs.declared.state.Keys.{Keys}
 use Rattle.protocol.specs.declared.state.Listener.{Listener}
 use Rattle.protocol.specs.declared.outcome.Event.{Event}
 use Rattle.protocol.specs.declared.outcome.Event.the-variants as events
-use Rattle.protocol.proofs.Journal.{nameOf, entryFor, entryIn, by-entry, stands, Fits, holdsPeer-stands, Thins, Match, stands-tally, pending-same, match-add, Settled, settled, turned-on, pending-settled, settled-amend}
+use Rattle.protocol.proofs.Journal.{nameOf, entryFor, entryIn, by-entry, stands, Fits, holdsPeer-stands, Thins, Match, stands-tally, pending-same, from-same, match-add, Settled, settled, turned-on, pending-settled, from-settled, settled-amend}
 use Rattle.protocol.proofs.Table.{not-free}
 use Rattle.protocol.proofs.DoneEvent.{done-number}
+use Rattle.protocol.proofs.Fixed.{after-fixed}
 
 -- The journal beside a listener
 
@@ -141,7 +142,7 @@ SegmentFollows l t src seg iss out-len e j s =
     let p = sender src seg in
     Follows (segment t src seg iss out-len) (segmentAfter l t (scanFor l t p) e (slotAfter (view l t p) (heldUntil (view l t p) t) (block src) (fieldsOf seg) iss e)) e j s
 
-on-time : (l : Listener) (t : ℕ) → isUntimely (l .clock) t ≡ false → l .clock ≤ t
+pub on-time : (l : Listener) (t : ℕ) → isUntimely (l .clock) t ≡ false → l .clock ≤ t
 on-time l t e = ltb-false t (l .clock) (or-false _ _ e .0)
 
 module _ (l : Listener) (j : Journal) (t : ℕ) (a : Agrees l j) (forward : l .clock ≤ t) where
@@ -167,11 +168,15 @@ module _ (l : Listener) (j : Journal) (t : ℕ) (a : Agrees l j) (forward : l .c
       before k noKey e = rw e
       before k (aKey was) e = rw (e .0, e .1)
 
-  early-same : (p : Peer) (src seg : List ℕ) → steps.isEarly (view l t p) (block src) seg ≡ opensEarly (atTime t j) src seg
+  early-same : (src seg : List ℕ) → length src ≡ size (l .local .family) → steps.isEarly (view l t (sender src seg)) (block src) seg ≡ opensEarly (atTime t j) src seg
   unfolding steps.isEarly opensEarly
-  early-same p src seg =
-      and-assoc (l .settings .on) (ltb (pendingAt t (l .slots)) (l .settings .limit)) (right (l .keys) (block src) (carriedBy (l .settings .codings) seg))
-      ∙ rw (a .settings, right-same src seg, pending-same now)
+  early-same src seg local =
+      let below = ltb (pendingAt t (l .slots)) (l .settings .limit) in
+      let within = ltb (pendingFrom t (block src) (l .slots)) (l .settings .share) in
+      let cookie = right (l .keys) (block src) (carriedBy (l .settings .codings) seg) in
+      and-assoc (l .settings .on) (below && within) cookie
+      ∙ (ap (λ x. l .settings .on && x) (and-assoc below within cookie)
+      ∙ rw (a .settings, right-same src seg, pending-same now, from-same now src local (a .table .fits)))
 
   -- a peer, by an address of the family
   module _ (p : Peer) (local : length (p .address) ≡ size (l .local .family)) where
@@ -283,7 +288,7 @@ module _ (l : Listener) (j : Journal) (t : ℕ) (a : Agrees l j) (forward : l .c
         let stays : Agrees (put l t (scanFor l t (sender src seg) .place) (view l t (sender src seg) .slot)) (atTime t j) =
         subst (λ s. Agrees (moved l t s) (atTime t j)) (sym same) (moved-agrees l j t (l .slots) (atTime t j .entries) a unchanged) in
         quiet {e = events.Retransmission} refl stays
-    opening-follows false e free = rw (early-same (sender src seg) src seg) (new-follows e free (opensEarly (atTime t j) src seg))
+    opening-follows false e free = rw (early-same src seg local) (new-follows e free (opensEarly (atTime t j) src seg))
 
     by-kind : (k : Kind) → Passed (kindChecks (view l t (sender src seg)) (fieldsOf seg) k)
         → SegmentFollows l t src seg iss out-len (segmentEvent (view l t (sender src seg)) (block src) seg k)
@@ -342,15 +347,22 @@ one l j c a (Refused r) e = go (numberOf r) refl
 
 -- Lists of calls
 all-follow : (l : Listener) (j : Journal) (calls : List Call) → Agrees l j
-    → (pendingNumber (listenerAfter l calls) ≡ pendingOf (journalAfter j (numbered l calls))) × (listenerDecisions l calls ≡ journalDecisions j (numbered l calls))
-unfolding step pendingNumber listenerAfter journalAfter numbered listenerDecisions journalDecisions
-all-follow l j [] a =
-    let same : pendingAt (l .clock) (l .slots) ≡ pendingOf j = sym (pending-same (a .table .match)) ∙ rw (a .time) (pending-settled (l .clock) (j .entries)) in
-    (rw (a .started) same, refl)
+    → Agrees (listenerAfter l calls) (journalAfter j (numbered l calls)) × (listenerDecisions l calls ≡ journalDecisions j (numbered l calls))
+unfolding step listenerAfter journalAfter numbered listenerDecisions journalDecisions
+all-follow l j [] a = (a, refl)
 all-follow l j (c ∷ cs) a =
     let x = one l j c a (callCheck l c) refl in
     let more = all-follow _ _ cs (x .agrees) in
     (more .0, ap₂ _∷_ (x .decided) (more .1))
+
+-- the numbers of both, of all addresses and of one of the family
+module _ (l : Listener) (j : Journal) (g : Agrees l j) where
+  same-pending : pendingNumber l ≡ pendingOf j
+  unfolding pendingNumber
+  same-pending = rw (g .started) (sym (pending-same (g .table .match)) ∙ rw (g .time) (pending-settled (l .clock) (j .entries)))
+
+  same-address : (a : List ℕ) → length a ≡ size (l .local .family) → addressPending l a ≡ pendingFor j a
+  same-address a local = sym (from-same (g .table .match) a local (g .table .fits)) ∙ rw (g .time) (from-settled (l .clock) a (j .entries))
 
 -- The start
 
@@ -365,16 +377,24 @@ fresh-agrees own port k = record { started = refl; time = refl; settings = refl;
           match = record { same = λ w. sym (sum-zero (λ s. sum w (entryIn f 0 s)) 64 freeSlot refl); once = λ p. omega arith };
         }
 
--- a start that is done
-begins : (own : List ℕ) (port : ℕ) (k : List ℕ) → startOf own port k .check ≡ Clear → Agrees (startOf own port k .listener) (freshJournal own port k)
+-- a start that is done, with an address of a family
+begins : (own : List ℕ) (port : ℕ) (k : List ℕ) → startOf own port k .check ≡ Clear
+    → Agrees (startOf own port k .listener) (freshJournal own port k) × (length own ≡ size (startOf own port k .listener .local .family))
 unfolding startOf
-begins own port k = go (refusal (startChecks own k))
+begins own port k = go (refusal (startChecks own k)) refl
   where
-    go : (r : Check) → startedBy own port k r .check ≡ Clear → Agrees (startedBy own port k r .listener) (freshJournal own port k)
-    go Clear e = fresh-agrees own port k
-    go (Refused r) e = absurd (let z : _≡_ {A = ℕ} 0 1 = cc in omega arith)
+    go : (r : Check) → refusal (startChecks own k) ≡ r → startedBy own port k r .check ≡ Clear
+        → Agrees (startedBy own port k r .listener) (freshJournal own port k) × (length own ≡ size (startedBy own port k r .listener .local .family))
+    go Clear c e = (fresh-agrees own port k, sym (size-of-family (length own) (not-false _ (every-check (startChecks own k) c .0))))
+    go (Refused r) c e = absurd (let z : _≡_ {A = ℕ} 0 1 = cc in omega arith)
 
 pub demand3 : (own : List ℕ) (port : ℕ) (k : List ℕ) (calls : List Call) → startOf own port k .check ≡ Clear → Demand3 own port k calls
 demand3 own port k calls e =
-    let x = all-follow (startOf own port k .listener) (freshJournal own port k) calls (begins own port k e) in
-    record { pending = x .0; verdicts = x .1 }
+    let l = startOf own port k .listener in
+    let b = begins own port k e in
+    let x = all-follow l (freshJournal own port k) calls (b .0) in
+    record {
+      pending = same-pending _ _ (x .0);
+      addresses = λ a local. same-address _ _ (x .0) a (rw (after-fixed l calls .0) (local ∙ b .1));
+      verdicts = x .1;
+    }

@@ -1,7 +1,7 @@
 -- The slots and the journal's entries hold the same connections: every weight of entries has one sum over both. Assumes nothing.
 use Prim.Native.Nat.{ℕ, _+_, _≤_, _<_}
 use mathlib.Core.Path.{_≡_, refl, sym, ap, _∙_, subst}
-use mathlib.Core.Bool.{Bool, true, false, cond, _&&_, true≢false, and-eq-true-iff}
+use mathlib.Core.Bool.{Bool, true, false, cond, _&&_, true≢false, and-true, and-eq-true-iff}
 use mathlib.Core.List.{List, [], _∷_, _++_}
 use native.Mathlib.Omega.{arith}
 use borrow.Author.Tests.{ltb-true, ltb-false, eqb-true, eq-eqb}
@@ -14,9 +14,9 @@ use Rattle.endpoint.specs.declared.address.Family.{Family}
 use Rattle.lists.proofs.Bools.{one-test}
 use Rattle.lists.proofs.SameBytes.{same-bytes-eq, same-bytes-refl}
 use Rattle.endpoint.proofs.Names.{samePeer-eq, samePeer-refl, short}
-use Rattle.lists.proofs.Sums.{sum-ext, sum-le, sum-amend, sum-set, sum-only, amend-amend, amend-ext}
-use Rattle.protocol.specs.Table.{isLive, isPending, holdsPeer, pendingAt, freeSlot}
-use Rattle.protocol.specs.Journal.{Mark, markPlain, markEarly, markOpen, markHeld, Entry, pends, named, keptMark, kept, only}
+use Rattle.lists.proofs.Sums.{sum-ext, sum-le, sum-amend, sum-set, sum-only, amend-amend, amend-ext, All, sum-ext-all}
+use Rattle.protocol.specs.Table.{isLive, isPending, holdsPeer, pendingAt, pendsFrom, pendingFrom, freeSlot}
+use Rattle.protocol.specs.Journal.{Mark, markPlain, markEarly, markOpen, markHeld, Entry, pends, pendsFor, named, keptMark, kept, only}
 use Rattle.protocol.specs.declared.slots.Status.{Status}
 use Rattle.protocol.specs.declared.slots.Status.the-variants.{Free, SynReceived, SynReceivedEarly, ResetHeld, Established}
 use Rattle.protocol.specs.declared.slots.Slot.{Slot}
@@ -59,6 +59,17 @@ stands f t p s = isLive t (s .status) && samePeer p (nameOf f s)
 abbrev pub Fits : Family → Slot → Type 0
 Fits f s = s .addr ≡ block (take (size f) (s .addr))
 
+-- a block in a slot, and the address that it is of
+address-in : (f : Family) (s : Slot) (a : List ℕ) → length a ≡ size f → sameBytes (s .addr) (block a) ≡ true → take (size f) (s .addr) ≡ a
+address-in f s a h e = ap (take (size f)) (same-bytes-eq _ _ e) ∙ short (size f) a h
+
+block-in : (f : Family) (s : Slot) (a : List ℕ) → Fits f s → take (size f) (s .addr) ≡ a → sameBytes (s .addr) (block a) ≡ true
+block-in f s a fit e = subst (λ b. sameBytes (s .addr) b ≡ true) (fit ∙ ap block e) (same-bytes-refl (s .addr))
+
+same-address : (f : Family) (s : Slot) (a : List ℕ) → length a ≡ size f → Fits f s → sameBytes (take (size f) (s .addr)) a ≡ sameBytes (s .addr) (block a)
+same-address f s a h fit =
+    one-test _ _ (λ e. block-in f s a fit (same-bytes-eq _ _ e)) (λ e. subst (λ x. sameBytes (take (size f) (s .addr)) x ≡ true) (address-in f s a h e) (same-bytes-refl _))
+
 -- a search of the table by block finds what stands there by name
 pub holdsPeer-stands : (f : Family) (t : ℕ) (p : Peer) (s : Slot) → length (p .address) ≡ size f → Fits f s
     → holdsPeer t (block (p .address)) (p .port) s ≡ stands f t p s
@@ -68,16 +79,14 @@ holdsPeer-stands f t p s h fit = ap (λ b. isLive t (s .status) && b) (one-test 
     there : (eqb (s .port) (p .port) && sameBytes (s .addr) (block (p .address))) ≡ true → samePeer p (nameOf f s) ≡ true
     there e =
         let both = and-eq-true-iff (eqb (s .port) (p .port)) _ .0 e in
-        let addresses : take (size f) (s .addr) ≡ p .address = ap (take (size f)) (same-bytes-eq _ _ (both .1)) ∙ short (size f) (p .address) h in
+        let addresses = address-in f s (p .address) h (both .1) in
         let names : nameOf f s ≡ p = λ i. record { address = addresses i; port = eqb-true (s .port) (p .port) (both .0) i } in
         subst (λ n. samePeer p n ≡ true) (sym names) (samePeer-refl p)
 
     back : samePeer p (nameOf f s) ≡ true → (eqb (s .port) (p .port) && sameBytes (s .addr) (block (p .address))) ≡ true
     back e =
         let names : nameOf f s ≡ p = sym (samePeer-eq p (nameOf f s) e) in
-        let blocks : s .addr ≡ block (p .address) = fit ∙ ap (λ n. block (n .address)) names in
-        let bytes : sameBytes (s .addr) (block (p .address)) ≡ true = subst (λ b. sameBytes (s .addr) b ≡ true) blocks (same-bytes-refl (s .addr)) in
-        and-eq-true-iff _ _ .1 (eq-eqb (s .port) (p .port) (ap (λ n. n .port) names), bytes)
+        and-eq-true-iff _ _ .1 (eq-eqb (s .port) (p .port) (ap (λ n. n .port) names), block-in f s (p .address) fit (ap (λ n. n .address) names))
 
 -- Rules that give an entry at most one, of its own name
 
@@ -121,15 +130,39 @@ kept-later t t′ h p (markHeld end) = go (ltb t end) (ltb t′ end) refl refl
     go false true p q = absurd (omega (arith, ltb-false t end p, ltb-true t′ end q))
     go false false p q = refl
 
-kept-pends : (t : ℕ) (p : Peer) (k : Mark) → tally (λ e. pends t (e .mark)) (keptMark t p k) ≡ bit (pends t k)
-kept-pends t p markPlain = refl
-kept-pends t p markEarly = refl
-kept-pends t p markOpen = refl
-kept-pends t p (markHeld end) = go (ltb t end) refl
-  where
-    go : (b : Bool) → ltb t end ≡ b → tally (λ (e : Entry). pends t (e .mark)) (cond b (record { peer = p; mark = markHeld end } ∷ []) []) ≡ bit b
-    go true e = ap (λ c. bit c + 0) e
-    go false e = refl
+-- the pending of the names that pass a test: an entry that is kept counts as before
+module _ (t : ℕ) (of : Peer → Bool) where
+  abbrev pub pendsOf : Entry → Bool
+  pendsOf e = pends t (e .mark) && of (e .peer)
+
+  kept-pends : (p : Peer) (k : Mark) → tally pendsOf (keptMark t p k) ≡ bit (pends t k && of p)
+  kept-pends p markPlain = refl
+  kept-pends p markEarly = omega arith
+  kept-pends p markOpen = refl
+  kept-pends p (markHeld end) = go (ltb t end) refl
+    where
+      go : (b : Bool) → ltb t end ≡ b → tally pendsOf (cond b (record { peer = p; mark = markHeld end } ∷ []) []) ≡ bit (b && of p)
+      go true e = omega (arith, ap (λ c. bit (c && of p)) e)
+      go false e = refl
+
+  entry-pends : (p : Peer) (st : Status) → tally pendsOf (entryFor t p st) ≡ bit (isPending t st && of p)
+  entry-pends p Free = refl
+  entry-pends p SynReceived = kept-pends p markPlain
+  entry-pends p (SynReceivedEarly n) = kept-pends p markEarly
+  entry-pends p (ResetHeld end) = kept-pends p (markHeld end)
+  entry-pends p Established = kept-pends p markOpen
+
+  -- what has ended does not pend
+  pub of-settled : (es : List Entry) → tally pendsOf (amend (kept t) es) ≡ tally pendsOf es
+  of-settled es = sum-amend _ (kept t) es ∙ sum-ext _ _ (λ e. kept-pends (e .peer) (e .mark)) es
+
+-- of every name
+any : Peer → Bool
+any p = true
+
+any-pends : (t : ℕ) (es : List Entry) → tally (pendsOf t any) es ≡ tally (λ e. pends t (e .mark)) es
+unfolding any
+any-pends t es = sum-ext _ _ (λ e. ap bit (and-true (pends t (e .mark)))) es
 
 -- The slots and the entries at a time
 
@@ -144,15 +177,17 @@ module _ {f : Family} {t : ℕ} {slots : List Slot} {es : List Entry} (m : Match
       go : (s : Slot) → bit (stands f t p s) ≡ tally (named p) (entryIn f t s)
       go s = by-entry t (nameOf f s) (s .status) (λ b xs. bit (b && samePeer p (nameOf f s)) ≡ tally (named p) xs) refl (λ k live. omega arith)
 
+  -- pending, of the names that pass a test; of all; and of an address, in slots that keep blocks of the family's addresses
+  of-same : (of : Peer → Bool) → tally (pendsOf t of) es ≡ tally (λ s. isPending t (s .status) && of (nameOf f s)) slots
+  of-same of = m .same (λ e. bit (pendsOf t of e)) ∙ sum-ext _ _ (λ s. entry-pends t of (nameOf f s) (s .status)) slots
+
   pub pending-same : tally (λ e. pends t (e .mark)) es ≡ pendingAt t slots
-  pending-same = m .same (λ e. bit (pends t (e .mark))) ∙ sum-ext _ _ (λ s. go (nameOf f s) (s .status)) slots
-    where
-      go : (p : Peer) (st : Status) → tally (λ e. pends t (e .mark)) (entryFor t p st) ≡ bit (isPending t st)
-      go p Free = refl
-      go p SynReceived = refl
-      go p (SynReceivedEarly n) = refl
-      go p (ResetHeld end) = kept-pends t p (markHeld end)
-      go p Established = refl
+  unfolding any
+  pending-same = sym (any-pends t es) ∙ (of-same any ∙ sum-ext _ _ (λ s. ap bit (and-true (isPending t (s .status)))) slots)
+
+  pub from-same : (a : List ℕ) → length a ≡ size f → All (Fits f) slots → tally (pendsFor t a) es ≡ pendingFrom t (block a) slots
+  unfolding pendsFrom
+  from-same a h fits = of-same (λ p. sameBytes (p .address) a) ∙ sum-ext-all (Fits f) _ _ (λ s fit. ap (λ c. bit (isPending t (s .status) && c)) (same-address f s a h fit)) slots fits
 
   -- a rule at work on the entries is at work on the slots'
   amended : (rule : Entry → List Entry) (w : Entry → ℕ) → sum w (amend rule es) ≡ sum (λ s. sum w (amend rule (entryIn f t s))) slots
@@ -210,7 +245,10 @@ turned-on f t t′ slots es h m =
 
 -- what has ended does not pend
 pub pending-settled : (t : ℕ) (es : List Entry) → tally (λ e. pends t (e .mark)) (amend (kept t) es) ≡ tally (λ e. pends t (e .mark)) es
-pending-settled t es = sum-amend _ (kept t) es ∙ sum-ext _ _ (λ e. kept-pends t (e .peer) (e .mark)) es
+pending-settled t es = sym (any-pends t (amend (kept t) es)) ∙ (of-settled t any es ∙ any-pends t es)
+
+pub from-settled : (t : ℕ) (a : List ℕ) (es : List Entry) → tally (pendsFor t a) (amend (kept t) es) ≡ tally (pendsFor t a) es
+from-settled t a es = of-settled t (λ p. sameBytes (p .address) a) es
 
 -- a peer's entry changes by a rule, and its slot to what the rule leaves of the slot's entry
 pub settled-amend : (f : Family) (t : ℕ) (slots : List Slot) (es : List Entry) (p : Peer) (rule : Entry → List Entry) (i : ℕ) (s : Slot)

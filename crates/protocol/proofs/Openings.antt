@@ -1,6 +1,6 @@
 -- New openings: when one is clear, its event, and what it does to the table. Assumes nothing.
 use Prim.Native.Nat.{ℕ, _+_, _≤_, _<_}
-use mathlib.Core.Path.{_≡_, refl, sym, ap, _∙_}
+use mathlib.Core.Path.{_≡_, refl, sym, ap, ap₂, _∙_}
 use mathlib.Core.Bool.{Bool, true, false, not, _&&_, true≢false, and-false}
 use mathlib.Core.List.{List, [], _∷_, _++_}
 use native.Mathlib.Omega.{arith}
@@ -20,7 +20,7 @@ use Rattle.endpoint.specs.Address.{Peer, block}
 use Rattle.endpoint.specs.Checks.{isUntimely}
 use Rattle.lists.proofs.Sums.{sum-set, some-passes, first-passes, none-passes}
 use Rattle.protocol.specs.Cookie.{carriedBy, counts, rightUnder, right}
-use Rattle.protocol.specs.Table.{isLive, isPending, isFree, freeSlot, newSlot, holdsPeer, freePlace, pendingAt}
+use Rattle.protocol.specs.Table.{isLive, isPending, isFree, freeSlot, newSlot, holdsPeer, freePlace, pendingAt, pendingFrom}
 use Rattle.protocol.specs.Call.{segment, sender}
 use Rattle.protocol.specs.View.{known, view}
 use Rattle.protocol.specs.Refusals.{wireChecks, callCheck}
@@ -91,11 +91,11 @@ pub record Admitted (l : Listener) (t : ℕ) : Type 0 where
   pub started : l .local .started ≡ true
   pub place : freePlace t (l .slots) < 64
 
--- early: Fast Open is on, pending is below the limit, and the cookie is right
-pub is-early : (l : Listener) (t : ℕ) (src seg : List ℕ) → l .settings .on ≡ true → pendingAt t (l .slots) < l .settings .limit
-    → right (l .keys) (block src) (carriedBy (l .settings .codings) seg) ≡ true → isEarly (view l t (sender src seg)) (block src) seg ≡ true
-unfolding isEarly
-is-early l t src seg on below r = rw (on, lt-ltb (pendingAt t (l .slots)) (l .settings .limit) below, r)
+-- Fast Open is on, pending is below the limit, and that of the address below the share
+pub enabled : (l : Listener) (t : ℕ) (p : Peer) → l .settings .on ≡ true → pendingAt t (l .slots) < l .settings .limit
+    → pendingFrom t (block (p .address)) (l .slots) < l .settings .share → cookiesEnabled (view l t p) ≡ true
+enabled l t p on below within =
+    rw (on, lt-ltb (pendingAt t (l .slots)) (l .settings .limit) below, lt-ltb (pendingFrom t (block (p .address)) (l .slots)) (l .settings .share) within)
 
 -- a new opening is early, and its SYN-ACK has a fresh cookie, where cookies are enabled and by what it carries
 pub early-is : (v : View) (b seg : List ℕ) → isEarly v b seg ≡ cookiesEnabled v && right (v .keys) b (carriedAt v seg)
@@ -106,15 +106,23 @@ pub fresh-is : (v : View) (b seg : List ℕ) → isFresh v b seg ≡ cookiesEnab
 unfolding isFresh
 fresh-is v b seg = refl
 
--- without a right cookie it is not early, and where an option counts it gets a cookie, if Fast Open is on and pending is below the limit
+-- without a right cookie it is not early
 pub wrong-plain : (v : View) (b seg : List ℕ) → right (v .keys) b (carriedAt v seg) ≡ false → isEarly v b seg ≡ false
-wrong-plain v b seg w = early-is v b seg ∙ rw w (and-false (v .settings .on && v .below))
+wrong-plain v b seg w = early-is v b seg ∙ rw w (and-false (cookiesEnabled v))
 
-pub wrong-fresh : (l : Listener) (t : ℕ) (src seg : List ℕ) → l .settings .on ≡ true → pendingAt t (l .slots) < l .settings .limit
-    → right (l .keys) (block src) (carriedBy (l .settings .codings) seg) ≡ false → counts (carriedBy (l .settings .codings) seg) ≡ true → isFresh (view l t (sender src seg)) (block src) seg ≡ true
-wrong-fresh l t src seg on below w some =
-    fresh-is (view l t (sender src seg)) (block src) seg
-    ∙ rw (on, lt-ltb (pendingAt t (l .slots)) (l .settings .limit) below, some, wrong-now (l .keys) (block src) (carriedBy (l .settings .codings) seg) w)
+-- where cookies are enabled it is early with a right cookie, and gets a cookie where an option counts and has none
+pub is-early : (v : View) (b seg : List ℕ) → cookiesEnabled v ≡ true → right (v .keys) b (carriedAt v seg) ≡ true → isEarly v b seg ≡ true
+is-early v b seg e r = early-is v b seg ∙ ap₂ _&&_ e r
+
+pub wrong-fresh : (v : View) (b seg : List ℕ) → cookiesEnabled v ≡ true → right (v .keys) b (carriedAt v seg) ≡ false → counts (carriedAt v seg) ≡ true → isFresh v b seg ≡ true
+wrong-fresh v b seg e w some = fresh-is v b seg ∙ ap₂ _&&_ e (rw (some, wrong-now (v .keys) b (carriedAt v seg) w))
+
+-- where they are not it is plain and gets none
+pub not-early : (v : View) (b seg : List ℕ) → cookiesEnabled v ≡ false → isEarly v b seg ≡ false
+not-early v b seg e = early-is v b seg ∙ rw e
+
+pub not-fresh : (v : View) (b seg : List ℕ) → cookiesEnabled v ≡ false → isFresh v b seg ≡ false
+not-fresh v b seg e = fresh-is v b seg ∙ rw e
 
 module _ (l : Listener) (t : ℕ) (src seg : List ℕ) (iss out-len : ℕ) (syn : kindOf (fieldsOf seg .flags) ≡ Syn)
     (new : known (view l t (sender src seg)) ≡ false) where

@@ -12,7 +12,7 @@ use Rattle.segment.specs.declared.refusal.Check.the-variants.{Clear, Refused}
 use Rattle.segment.specs.declared.header.Header.{Header}
 use Rattle.segment.specs.declared.header.Kind.the-variants.{Ack}
 use Rattle.segment.proofs.Sixteen.{row1, row2, row3, row4, row5, row6, row7, row8, row9, row10, row11, row12, row16}
-use Rattle.endpoint.specs.Address.{block}
+use Rattle.endpoint.specs.Address.{Peer, block}
 use Rattle.protocol.specs.Table.{pendingAt}
 use Rattle.protocol.specs.Call.{segment, sender}
 use Rattle.protocol.specs.View.{view}
@@ -23,38 +23,29 @@ use Rattle.protocol.specs.declared.state.View.{View}
 use Rattle.protocol.specs.declared.state.Listener.{Listener}
 use Rattle.protocol.specs.declared.outcome.Event.the-variants as events
 use Rattle.protocol.proofs.DoneOutput.{opening-written}
-use Rattle.protocol.proofs.Openings.{slotFor, pending-put, is-early, clear-new, step-new}
+use Rattle.protocol.proofs.Openings.{slotFor, pending-put, enabled, is-early, not-early, not-fresh, clear-new, step-new}
 
 -- where pending is at the limit no cookie is taken or given
-at-limit : (l : Listener) (t : ℕ) (src seg : List ℕ) → l .settings .limit ≤ pendingAt t (l .slots) → cookiesEnabled (view l t (sender src seg)) ≡ false
-at-limit l t src seg h = rw (le-ltb (pendingAt t (l .slots)) (l .settings .limit) h) (and-false (l .settings .on))
-
-not-early : (v : View) (b seg : List ℕ) → cookiesEnabled v ≡ false → isEarly v b seg ≡ false
-unfolding isEarly
-not-early v b seg e = rw e
-
-not-fresh : (v : View) (b seg : List ℕ) → cookiesEnabled v ≡ false → isFresh v b seg ≡ false
-unfolding isFresh
-not-fresh v b seg e = rw e
+at-limit : (l : Listener) (t : ℕ) (p : Peer) → l .settings .limit ≤ pendingAt t (l .slots) → cookiesEnabled (view l t p) ≡ false
+at-limit l t p h = rw (le-ltb (pendingAt t (l .slots)) (l .settings .limit) h) (and-false (l .settings .on))
 
 module _ (l : Listener) (t : ℕ) (src seg : List ℕ) (iss out-len : ℕ) (o : NewOpening l t src seg iss out-len) where
-  -- at the limit an opening is plain, and its SYN-ACK has no cookie
-  at-limit-plain : l .settings .limit ≤ pendingAt t (l .slots)
+  -- where cookies are not enabled an opening is plain, and its SYN-ACK has no cookie
+  pub disabled-plain : cookiesEnabled (view l t (sender src seg)) ≡ false
       → (step l (segment t src seg iss out-len) .event ≡ events.Regular) × (step l (segment t src seg iss out-len) .written ≡ 24)
-  at-limit-plain h =
+  disabled-plain still =
       let v : View = view l t (sender src seg) in
-      let still = at-limit l t src seg h in
       let e = step-new l t src seg iss out-len (o .syn) (o .new) false (not-early v (block src) seg still) (o .clear) in
       (rw e, opening-written l t src seg iss out-len (o .clear) (o .syn) ∙ rw (e, not-fresh v (block src) seg still))
 
-  -- below it, with a right cookie, it is early, and pending is one more
-  below-limit-early : l .settings .on ≡ true → pendingAt t (l .slots) < l .settings .limit → HasRight l src seg
+  -- where they are, with a right cookie, it is early, and pending is one more
+  enabled-early : cookiesEnabled (view l t (sender src seg)) ≡ true → HasRight l src seg
       → (step l (segment t src seg iss out-len) .event ≡ events.FastOpened (accepts (l .settings) seg))
       × (pendingNumber (step l (segment t src seg iss out-len) .listener) ≡ pendingAt t (l .slots) + 1)
   unfolding pendingNumber
-  below-limit-early on h r =
+  enabled-early on r =
       let k = clear-new l t src seg iss out-len (o .syn) (o .new) (o .clear) in
-      let e = step-new l t src seg iss out-len (o .syn) (o .new) true (is-early l t src seg on h r) (o .clear) in
+      let e = step-new l t src seg iss out-len (o .syn) (o .new) true (is-early (view l t (sender src seg)) (block src) seg on r) (o .clear) in
       let s = slotFor true src seg iss (accepts (l .settings) seg) in
       (rw e, rw (e, k .started) (pending-put t (l .slots) s (rw (o .slots) (k .place))))
 
@@ -83,10 +74,10 @@ sixteen =
       row10 = row10;
       row11 = row11;
       row12 = row12;
-      row13 = λ l t src seg iss out-len o e. at-limit-plain l t src seg iss out-len o (omega (arith, e)) .0;
-      row14 = λ l t src seg iss out-len o on e p r.
-          let k = below-limit-early l t src seg iss out-len o on (omega (arith, e, p)) r in
+      row13 = λ l t src seg iss out-len o e. disabled-plain l t src seg iss out-len o (at-limit l t (sender src seg) (omega (arith, e))) .0;
+      row14 = λ l t src seg iss out-len o on e p w r.
+          let k = enabled-early l t src seg iss out-len o (enabled l t (sender src seg) on (omega (arith, e, p)) w) r in
           (k .0, k .1 ∙ ap (λ n. n + 1) p);
-      row15 = λ l t src seg iss out-len o on e p r. at-limit-plain l t src seg iss out-len o (omega (arith, e, p));
+      row15 = λ l t src seg iss out-len o on e p r. disabled-plain l t src seg iss out-len o (at-limit l t (sender src seg) (omega (arith, e, p)));
       row16 = row16;
     }

@@ -265,4 +265,5 @@ mss-most g e =
     let a = and-true (leb (g .limit) 64) _ e in
     let b = and-true (leb (g .«early_room») 1460) _ (a .1) in
     let c = and-true (leb (g .hold) 65535) _ (b .1) in
-    leb-true (g .mss) 1460 (and-true (leb 536 (g .mss)) _ (c .1) .1)
+    let d = and-true (leb 536 (g .mss)) _ (c .1) in
+    leb-true (g .mss) 1460 (and-true (leb (g .mss) 1460) _ (d .1) .0)

@@ -4,7 +4,7 @@ use mathlib.Core.Path.{_≡_, refl, sym, ap, subst}
 use mathlib.Core.Bool.{Bool, true, false, not, _&&_, and-false}
 use mathlib.Core.List.{List}
 use native.Mathlib.Omega.{arith}
-use borrow.Author.Tests.{ltb-true, ltb-false, lt-ltb, le-ltb, ne-eqb}
+use borrow.Author.Tests.{ltb-false, le-ltb, ne-eqb}
 use lib.Dec.{ltb}
 use lib.ListN.{length, getD, set, take, length-set}
 use Rattle.segment.specs.Refusal.{order}
@@ -16,18 +16,17 @@ use Rattle.endpoint.specs.Address.{Peer, block}
 use Rattle.endpoint.specs.Checks.{isUntimely}
 use Rattle.lists.proofs.Sums.{bit-most, sum-le, sum-set}
 use Rattle.protocol.specs.Cookie.{carriedBy, right}
-use Rattle.protocol.specs.Table.{isLive, isPending, freeSlot, holdsPeer, freePlace, pendingAt}
+use Rattle.protocol.specs.Table.{isLive, isPending, freeSlot, holdsPeer, freePlace, pendingAt, pendsFrom, pendingFrom}
 use Rattle.protocol.specs.Call.{sender, acceptedPart}
 use Rattle.protocol.specs.View.{known, view}
 use Rattle.protocol.specs.Refusals.{wireChecks}
-use Rattle.protocol.specs.Step.{put, step}
+use Rattle.protocol.specs.Step.{cookiesEnabled, put, step}
 use Rattle.protocol.specs.TwoOpenings.{Arrival, callOf, Opens, TwoOpenings, upToEarlyRoom, BothEarly}
-use Rattle.protocol.specs.declared.slots.Status.{Status}
-use Rattle.protocol.specs.declared.slots.Status.the-variants.{Free, SynReceived, SynReceivedEarly, ResetHeld, Established}
 use Rattle.protocol.specs.declared.slots.Slot.{Slot}
 use Rattle.protocol.specs.declared.state.Listener.{Listener}
 use Rattle.protocol.specs.declared.outcome.Event.the-variants as events
-use Rattle.protocol.proofs.Openings.{first-found, holding, unknown-none, none-unknown, slotFor, is-early, new-clear, step-new}
+use Rattle.protocol.proofs.Table.{and-most, live-earlier, pending-earlier, from-earlier}
+use Rattle.protocol.proofs.Openings.{first-found, holding, unknown-none, none-unknown, slotFor, enabled, is-early, new-clear, step-new}
 
 -- Tests, as numbers
 
@@ -36,12 +35,6 @@ not-least true true h = omega arith
 not-least true false h = absurd (omega (arith, h))
 not-least false true h = omega arith
 not-least false false h = omega arith
-
-and-most : (a b c : Bool) → bit a ≤ bit b → bit (a && c) ≤ bit (b && c)
-and-most true true c h = omega arith
-and-most true false c h = absurd (omega (arith, h))
-and-most false true c h = omega arith
-and-most false false c h = omega arith
 
 -- Slots
 
@@ -52,33 +45,15 @@ other-port t p s h = rw (ne-eqb (s .port) (p .port) h) (and-false (isLive t (s .
 -- from one time to a later one
 
 module _ (t u : ℕ) (later : t ≤ u) where
-  end-earlier : (end : ℕ) → bit (ltb u end) ≤ bit (ltb t end)
-  end-earlier end = go (ltb u end) refl
-    where
-      go : (b : Bool) → ltb u end ≡ b → bit b ≤ bit (ltb t end)
-      go true e = omega (arith, ap bit (lt-ltb t end (omega (arith, later, ltb-true u end e))))
-      go false e = omega arith
-
-  -- what is live or pending later is so earlier
-  live-earlier : (s : Status) → bit (isLive u s) ≤ bit (isLive t s)
-  live-earlier Free = omega arith
-  live-earlier SynReceived = omega arith
-  live-earlier (SynReceivedEarly n) = omega arith
-  live-earlier (ResetHeld end) = end-earlier end
-  live-earlier Established = omega arith
-
-  pending-earlier : (s : Status) → bit (isPending u s) ≤ bit (isPending t s)
-  pending-earlier Free = omega arith
-  pending-earlier SynReceived = omega arith
-  pending-earlier (SynReceivedEarly n) = omega arith
-  pending-earlier (ResetHeld end) = end-earlier end
-  pending-earlier Established = omega arith
-
   holds-earlier : (b : List ℕ) (port : ℕ) (s : Slot) → bit (holdsPeer u b port s) ≤ bit (holdsPeer t b port s)
   unfolding holdsPeer
-  holds-earlier b port s = and-most (isLive u (s .status)) (isLive t (s .status)) _ (live-earlier (s .status))
+  holds-earlier b port s = and-most (isLive u (s .status)) (isLive t (s .status)) _ (live-earlier t u later (s .status))
 
-  -- a slot is set in between
+  -- a slot is set in between: at most one more passes a test that is passed no more often later
+  most-later : (p q : Slot → Bool) → ((o : Slot) → bit (p o) ≤ bit (q o)) → (slots : List Slot) (i : ℕ) (s : Slot) → i < length slots → tally p (set slots i s) ≤ tally q slots + 1
+  most-later p q h slots i s fits =
+      omega (arith, sum-set (λ o. bit (p o)) slots i s freeSlot fits, sum-le (λ o. bit (p o)) (λ o. bit (q o)) h slots, bit-most (p s))
+
   module _ (slots : List Slot) (i : ℕ) (s : Slot) (fits : i < length slots) where
     -- a peer with another port was not there and still is not
     held-later : (p : Peer) → (s .port ≡ p .port → ⊥) → tally (holding t p) slots ≡ 0 → tally (holding u p) (set slots i s) ≡ 0
@@ -96,17 +71,15 @@ module _ (t u : ℕ) (later : t ≤ u) where
       arith,
       sum-set (λ o. bit (not (isLive u (o .status)))) slots i s freeSlot fits,
       sum-le (λ o. bit (not (isLive t (o .status)))) (λ o. bit (not (isLive u (o .status))))
-          (λ o. not-least (isLive u (o .status)) (isLive t (o .status)) (live-earlier (o .status))) slots,
+          (λ o. not-least (isLive u (o .status)) (isLive t (o .status)) (live-earlier t u later (o .status))) slots,
       bit-most (not (isLive u (getD slots i freeSlot .status))),
     )
 
     pending-later : pendingAt u (set slots i s) ≤ pendingAt t slots + 1
-    pending-later = omega (
-      arith,
-      sum-set (λ o. bit (isPending u (o .status))) slots i s freeSlot fits,
-      sum-le (λ o. bit (isPending u (o .status))) (λ o. bit (isPending t (o .status))) (λ o. pending-earlier (o .status)) slots,
-      bit-most (isPending u (s .status)),
-    )
+    pending-later = most-later (λ o. isPending u (o .status)) (λ o. isPending t (o .status)) (λ o. pending-earlier t u later (o .status)) slots i s fits
+
+    from-later : (b : List ℕ) → pendingFrom u b (set slots i s) ≤ pendingFrom t b slots + 1
+    from-later b = most-later (pendsFrom u b) (pendsFrom t b) (from-earlier t u later b) slots i s fits
 
 -- An opening
 
@@ -116,15 +89,15 @@ part-whole : (seg : List ℕ) (out-len : ℕ) → acceptedPart seg (events.FastO
 unfolding acceptedPart
 part-whole seg out-len = rw (le-ltb (length (payloadOf seg)) (min (length (payloadOf seg)) out-len) (omega arith))
 
--- a new one with a right cookie, below the limit, is early and takes the free place
+-- a new one with a right cookie, where cookies are enabled, is early and takes the free place
 early : (l : Listener) (src : List ℕ) (a : Arrival) → Opens l src a → known (view l (a .time) (sender src (a .seg))) ≡ false
-    → freePlace (a .time) (l .slots) < 64 → l .settings .on ≡ true → pendingAt (a .time) (l .slots) < l .settings .limit
+    → freePlace (a .time) (l .slots) < 64 → cookiesEnabled (view l (a .time) (sender src (a .seg))) ≡ true
     → right (l .keys) (block src) (carriedBy (l .settings .codings) (a .seg)) ≡ true
     → (step l (callOf src a) .event ≡ events.FastOpened (upToEarlyRoom l a))
     × (step l (callOf src a) .listener ≡ put l (a .time) (freePlace (a .time) (l .slots)) (slotFor true src (a .seg) (a .iss) (upToEarlyRoom l a)))
-early l src a o new free on below r =
+early l src a o new free on r =
     let clear = new-clear l (a .time) src (a .seg) (a .iss) (a .out-len) (o .syn) new (o .clear) free in
-    let e = step-new l (a .time) src (a .seg) (a .iss) (a .out-len) (o .syn) new true (is-early l (a .time) src (a .seg) on below r) clear in
+    let e = step-new l (a .time) src (a .seg) (a .iss) (a .out-len) (o .syn) new true (is-early (view l (a .time) (sender src (a .seg))) (block src) (a .seg) on r) clear in
     (rw e, rw e)
 
 -- a clear one is not before the listener's clock
@@ -164,7 +137,7 @@ both-early l src a b w =
     fits = first-found (λ o. not (isLive t (o .status))) (l .slots) (omega (arith, w .free))
 
     one : (step l (callOf src a) .event ≡ events.FastOpened (upToEarlyRoom l a)) × (step l (callOf src a) .listener ≡ m)
-    one = early l src a (w .first) (w .first-new) (omega (arith, fits, w .slots)) (w .on) (omega (arith, w .below)) (w .right-cookie)
+    one = early l src a (w .first) (w .first-new) (omega (arith, fits, w .slots)) (enabled l t (sender src (a .seg)) (w .on) (omega (arith, w .below)) (omega (arith, w .within))) (w .right-cookie)
 
     opens : Opens m src b
     opens = subst (λ x. Opens x src b) (one .1) (w .second)
@@ -186,4 +159,5 @@ both-early l src a b w =
 
     two : step (step l (callOf src a) .listener) (callOf src b) .event ≡ events.FastOpened (upToEarlyRoom l b)
     two = subst (λ x. step x (callOf src b) .event ≡ events.FastOpened (upToEarlyRoom l b)) (sym (one .1))
-        (early m src b opens new free (w .on) (omega (arith, w .below, pending-later t u later (l .slots) i s fits)) (rw (w .one-cookie) at (w .right-cookie)) .0)
+        (early m src b opens new free (enabled m u (sender src (b .seg)) (w .on) (omega (arith, w .below, pending-later t u later (l .slots) i s fits)) (omega (arith, w .within, from-later t u later (l .slots) i s fits (block src))))
+        (rw (w .one-cookie) at (w .right-cookie)) .0)

@@ -14,9 +14,12 @@ use Rattle.protocol.specs.declared.state.Settings.{Settings}
 use Rattle.protocol.specs.declared.outcome.Event.{Event}
 use Rattle.protocol.specs.declared.outcome.Event.the-variants.{Refused, FastOpened, Regular, Retransmission, Completed, WasReset, Done}
 
--- own MSS until a settings call
+-- own MSS, and the share of an address (02, Item 8), until a settings call
 abbrev pub freshMss : ℕ
 freshMss = 536
+
+abbrev pub freshShare : ℕ
+freshShare = 64
 
 -- A call with its arguments, the time first. A segment has its source address, its bytes, our initial number and the output's length; a call by name has an
 -- address and a port, and a resend the output's length too.

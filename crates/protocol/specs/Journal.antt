@@ -1,4 +1,4 @@
--- Document 01, "Demand 3's book", and document 02, Item 4: a record of the calls that is kept apart from the listener. It is fed the start's arguments, each call's and the number
+-- Document 01, "Demand 3's book", and document 02, Items 4 and 8: a record of the calls that is kept apart from the listener. It is fed the start's arguments, each call's and the number
 -- returned, and nothing from the slots.
 -- Assumes nothing.
 use Prim.Native.Nat.{ℕ, zero, suc, _+_, min}
@@ -11,10 +11,11 @@ use Rattle.segment.specs.Header.{fieldsOf, payloadOf, kindOf}
 use Rattle.segment.specs.declared.options.Codings.the-variants.{NewOnly}
 use Rattle.segment.specs.declared.header.Kind.{Kind}
 use Rattle.segment.specs.declared.header.Kind.the-variants.{Syn, Rst, Ack, Other}
+use Rattle.lists.specs.Bytes.{sameBytes}
 use Rattle.lists.specs.Lists.{tally, amend}
 use Rattle.endpoint.specs.Address.{Peer, samePeer, block}
 use Rattle.protocol.specs.Cookie.{Carried, carriedBy, rightUnder}
-use Rattle.protocol.specs.Call.{freshMss, Call, segment, settings, key, abandon, resend, close, sender, timeOf, Verdict, early, plain, repeat, noVerdict}
+use Rattle.protocol.specs.Call.{freshMss, freshShare, Call, segment, settings, key, abandon, resend, close, sender, timeOf, Verdict, early, plain, repeat, noVerdict}
 use Rattle.protocol.specs.declared.state.Settings.{Settings}
 
 -- what is noted of a connection
@@ -43,7 +44,7 @@ abbrev pub freshJournal : List ℕ → ℕ → List ℕ → Journal
 freshJournal own port k =
     record {
       time = 0;
-      settings = record { on = false; limit = 0; «early_room» = 0; hold = 0; mss = freshMss; codings = NewOnly };
+      settings = record { on = false; limit = 0; «early_room» = 0; hold = 0; mss = freshMss; codings = NewOnly; share = freshShare };
       present = k;
       previous = noKey;
       entries = [];
@@ -58,6 +59,13 @@ pends t (markHeld end) = ltb t end
 
 abbrev pub pendingOf : Journal → ℕ
 pendingOf j = tally (λ e. pends (j .time) (e .mark)) (j .entries)
+
+-- Of these, the ones from one source address, whatever their ports.
+abbrev pub pendsFor : ℕ → List ℕ → Entry → Bool
+pendsFor t a e = pends t (e .mark) && sameBytes (e .peer .address) a
+
+abbrev pub pendingFor : Journal → List ℕ → ℕ
+pendingFor j a = tally (pendsFor (j .time) a) (j .entries)
 
 -- The settings in force.
 abbrev pub settingsOf : Journal → Settings
@@ -120,9 +128,9 @@ hasRight j src seg =
     let o = carriedBy (settingsOf j .codings) seg in
     rightUnder (keyExpansion (j .present)) (block src) o || rightBefore (j .previous) (block src) o
 
--- the three terms for an early opening: on, below the limit so far, a right cookie
+-- the terms for an early opening: on, below the limit so far, its address below the share so far, a right cookie
 unfoldable pub opensEarly : Journal → List ℕ → List ℕ → Bool
-opensEarly j src seg = settingsOf j .on && (ltb (pendingOf j) (settingsOf j .limit) && hasRight j src seg)
+opensEarly j src seg = settingsOf j .on && (ltb (pendingOf j) (settingsOf j .limit) && (ltb (pendingFor j src) (settingsOf j .share) && hasRight j src seg))
 
 abbrev pub newMark : Bool → Mark
 newMark true = markEarly

@@ -1,4 +1,4 @@
--- Document 01, "Numbers returned" and "Listener": the checks of each call, and the refusal that they come to.
+-- Document 01, "Numbers returned" and "Listener", and document 02, Item 8: the checks of each call, and the refusal that they come to.
 -- Assumes nothing.
 use Prim.Native.Nat.{ℕ}
 use mathlib.Core.List.{List, [], _∷_, _++_}
@@ -39,9 +39,18 @@ mostEarlyRoom = 1460
 abbrev pub mostHold : ℕ
 mostHold = 65535
 
--- not 12: limit 0 to 64, early room 0 to 1,460, hold 0 to 65,535, MSS 536 to 1,460
+-- how many early openings of one address may be pending
+abbrev pub leastShare : ℕ
+leastShare = 1
+
+abbrev pub mostShare : ℕ
+mostShare = 64
+
+-- not 12: limit 0 to 64, early room 0 to 1,460, hold 0 to 65,535, MSS 536 to 1,460, share 1 to 64
 unfoldable pub inRange : Settings → Bool
-inRange g = leb (g .limit) mostLimit && (leb (g .«early_room») mostEarlyRoom && (leb (g .hold) mostHold && (leb leastMss (g .mss) && leb (g .mss) mostMss)))
+inRange g =
+    leb (g .limit) mostLimit && (leb (g .«early_room») mostEarlyRoom && (leb (g .hold) mostHold
+    && (leb leastMss (g .mss) && (leb (g .mss) mostMss && (leb leastShare (g .share) && leb (g .share) mostShare)))))
 
 -- not 12: a key has 16 bytes
 abbrev pub isKey : List ℕ → Bool

@@ -1,6 +1,6 @@
--- Document 01, "The table of sixteen": one table of statements about the definitions that the contracts cite.
+-- Document 01, "The table of sixteen", with the share of document 02, Item 8, in row 14: one table of statements about the definitions that the contracts cite.
 -- Assumes nothing.
-use Prim.Native.Nat.{ℕ, _≤_}
+use Prim.Native.Nat.{ℕ, _≤_, _<_}
 use mathlib.Core.Path.{_≡_}
 use mathlib.Core.List.{List, [], _∷_}
 use mathlib.Core.Bool.{true, false}
@@ -22,7 +22,7 @@ use Rattle.segment.specs.declared.header.Kind.the-variants.{Syn, Ack}
 use Rattle.segment.specs.declared.write.SynAck.{SynAck}
 use Rattle.endpoint.specs.Address.{block}
 use Rattle.protocol.specs.Cookie.{carriedBy, right}
-use Rattle.protocol.specs.Table.{slotCount, isWaiting, pendingAt}
+use Rattle.protocol.specs.Table.{slotCount, isWaiting, pendingAt, pendingFrom}
 use Rattle.protocol.specs.Call.{segment, sender}
 use Rattle.protocol.specs.View.{known, view}
 use Rattle.protocol.specs.Refusals.{expected, kindChecks, callCheck}
@@ -70,9 +70,9 @@ pub record Sixteen : Type 0 where
   pub row13 : (l : Listener) (t : ℕ) (src seg : List ℕ) (iss out-len : ℕ) → NewOpening l t src seg iss out-len
       → l .settings .limit ≡ 0
       → step l (segment t src seg iss out-len) .event ≡ events.Regular
-  -- pending 1, limit 2, right cookie: early; pending 2
+  -- pending 1, limit 2, right cookie: early; pending 2. The address is below its share, as it always is where the share is 2 or more
   pub row14 : (l : Listener) (t : ℕ) (src seg : List ℕ) (iss out-len : ℕ) → NewOpening l t src seg iss out-len
-      → l .settings .on ≡ true → l .settings .limit ≡ 2 → pendingAt t (l .slots) ≡ 1 → HasRight l src seg
+      → l .settings .on ≡ true → l .settings .limit ≡ 2 → pendingAt t (l .slots) ≡ 1 → pendingFrom t (block src) (l .slots) < l .settings .share → HasRight l src seg
       → (step l (segment t src seg iss out-len) .event ≡ events.FastOpened (accepts (l .settings) seg))
       × (pendingNumber (step l (segment t src seg iss out-len) .listener) ≡ 2)
   -- pending 2, limit 2, right cookie: plain, 24 bytes

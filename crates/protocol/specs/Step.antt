@@ -1,4 +1,4 @@
--- Document 01, "Listener", and document 02, Items 4 and 7: the start, and one call on a listener with its outcome: the listener next, what happened, what is written and what is remarked.
+-- Document 01, "Listener", and document 02, Items 4, 7 and 8: the start, and one call on a listener with its outcome: the listener next, what happened, what is written and what is remarked.
 -- Assumes nothing.
 use Prim.Native.Nat.{ℕ, _+_, min}
 use mathlib.Core.List.{List, [], _∷_}
@@ -25,7 +25,7 @@ use Rattle.endpoint.specs.Address.{Peer, isSize, familyOf, block}
 use Rattle.endpoint.specs.declared.address.Family.the-variants.{V4}
 use Rattle.protocol.specs.Cookie.{Carried, carriedBy, counts, cookieUnder, rightUnder, right}
 use Rattle.protocol.specs.Table.{slotCount, acceptedWith, afterReset, freeSlot, newSlot, withStatus, pendingAt}
-use Rattle.protocol.specs.Call.{freshMss, Call, segment, settings, key, abandon, resend, close, sender}
+use Rattle.protocol.specs.Call.{freshMss, freshShare, Call, segment, settings, key, abandon, resend, close, sender}
 use Rattle.protocol.specs.View.{known, ownAddress, scanFor, view, viewOf}
 use Rattle.protocol.specs.Refusals.{isKey, callCheck}
 use Rattle.protocol.specs.declared.slots.Status.{Status}
@@ -45,9 +45,9 @@ use Rattle.protocol.specs.declared.outcome.Started.{Started}
 
 -- The start
 
--- "Fresh state": Fast Open off, limit, early room and hold 0, own MSS 536, the new coding alone
+-- "Fresh state": Fast Open off, limit, early room and hold 0, own MSS 536, the new coding alone, share 64
 abbrev pub freshSettings : StoredSettings
-freshSettings = record { on = false; limit = 0; «early_room» = 0; hold = 0; mss = freshMss; codings = NewOnly }
+freshSettings = record { on = false; limit = 0; «early_room» = 0; hold = 0; mss = freshMss; codings = NewOnly; share = freshShare }
 
 -- a listener with no connection, at time 0
 abbrev pub blank : LocalEndpoint → Keys → Listener
@@ -77,9 +77,9 @@ startOf own port k = startedBy own port k (refusal (startChecks own k))
 
 -- An opening
 
--- cookies are taken and given: Fast Open is on and pending is below the limit
+-- cookies are taken and given: Fast Open is on, pending is below the limit, and the address's own below the share
 abbrev pub cookiesEnabled : View → Bool
-cookiesEnabled v = v .settings .on && v .below
+cookiesEnabled v = v .settings .on && (v .below && v .within)
 
 -- the option of a segment that counts, under the settings in force
 abbrev pub carriedAt : View → List ℕ → Carried
@@ -224,7 +224,7 @@ freed l t p = put l t (scanFor l t p .place) (withStatus (view l t p .slot) Free
 
 -- settings as they are kept
 abbrev pub storedSettings : Settings → StoredSettings
-storedSettings g = record { on = g .on; limit = g .limit; «early_room» = g .«early_room»; hold = g .hold; mss = g .mss; codings = g .codings }
+storedSettings g = record { on = g .on; limit = g .limit; «early_room» = g .«early_room»; hold = g .hold; mss = g .mss; codings = g .codings; share = g .share }
 
 -- the present key becomes the previous one
 abbrev pub withKey : Keys → List ℕ → Keys

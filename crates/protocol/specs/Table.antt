@@ -1,10 +1,11 @@
--- Document 01, "Listener": the slots, which of them are free, and pending.
+-- Document 01, "Listener", and document 02, Item 8: the slots, which of them are free, and pending, of all addresses and of one.
 -- Assumes nothing.
 use Prim.Native.Nat.{ℕ}
 use mathlib.Core.List.{List}
 use mathlib.Core.Bool.{Bool, true, false, not, _&&_}
 use lib.Dec.{ltb}
 use lib.ListN.{replicate}
+use Rattle.lists.specs.Bytes.{sameBytes}
 use Rattle.lists.specs.Lists.{tally, firstIndex}
 use Rattle.endpoint.specs.Address.{sameName}
 use Rattle.protocol.specs.declared.slots.Status.{Status}
@@ -90,6 +91,13 @@ freePlace t slots = firstIndex (λ s. not (isLive t (s .status))) slots
 
 abbrev pub pendingAt : ℕ → List Slot → ℕ
 pendingAt t slots = tally (λ s. isPending t (s .status)) slots
+
+-- "from its own source address": the address with this block, whatever the port
+unfoldable pub pendsFrom : ℕ → List ℕ → Slot → Bool
+pendsFrom t b s = isPending t (s .status) && sameBytes (s .addr) b
+
+abbrev pub pendingFrom : ℕ → List ℕ → List Slot → ℕ
+pendingFrom t b slots = tally (pendsFrom t b) slots
 
 -- In one scan of the table: the place of the peer with this block and port among the slots that are live at the time, the lowest free place (each the
 -- number of slots where there is none), and pending.

@@ -1,4 +1,4 @@
--- Document 01, "Listener": what a call's checks, event and output depend on: the listener at the call's time and for its peer. They do not depend on the place where a
+-- Document 01, "Listener", and document 02, Item 8: what a call's checks, event and output depend on: the listener at the call's time and for its peer. They do not depend on the place where a
 -- slot stands.
 -- Assumes nothing.
 use Prim.Native.Nat.{ℕ}
@@ -8,7 +8,7 @@ use lib.Dec.{ltb}
 use lib.ListN.{getD, take}
 use Rattle.endpoint.specs.Address.{Peer, size, block}
 use Rattle.endpoint.specs.Checks.{isUntimely}
-use Rattle.protocol.specs.Table.{slotCount, isFree, freeSlot, scanOf}
+use Rattle.protocol.specs.Table.{slotCount, isFree, freeSlot, pendingFrom, scanOf}
 use Rattle.protocol.specs.Call.{Call, timeOf, peerOf}
 use Rattle.protocol.specs.declared.state.LocalEndpoint.{LocalEndpoint}
 use Rattle.protocol.specs.declared.state.StoredSettings.{StoredSettings}
@@ -25,25 +25,22 @@ settingsAt l t = l .settings
 abbrev pub slotAt : Listener → ℕ → Slot
 slotAt l i = getD (l .slots) i freeSlot
 
--- the view that a scan of the table gives
-abbrev pub viewFrom : Listener → ℕ → Scan → View
-viewFrom l t s =
-    record {
-      local = l .local;
-      untimely = isUntimely (l .clock) t;
-      settings = settingsAt l t;
-      keys = l .keys;
-      slot = slotAt l (s .place);
-      vacant = ltb (s .free) slotCount;
-      below = ltb (s .pending) (settingsAt l t .limit);
-    }
-
 -- the scan for a peer
 abbrev pub scanFor : Listener → ℕ → Peer → Scan
 scanFor l t p = scanOf t (block (p .address)) (p .port) (l .slots)
 
 abbrev pub view : Listener → ℕ → Peer → View
-view l t p = viewFrom l t (scanFor l t p)
+view l t p =
+    record {
+      local = l .local;
+      untimely = isUntimely (l .clock) t;
+      settings = settingsAt l t;
+      keys = l .keys;
+      slot = slotAt l (scanFor l t p .place);
+      vacant = ltb (scanFor l t p .free) slotCount;
+      below = ltb (scanFor l t p .pending) (settingsAt l t .limit);
+      within = ltb (pendingFrom t (block (p .address)) (l .slots)) (settingsAt l t .share);
+    }
 
 abbrev pub viewOf : Listener → Call → View
 viewOf l c = view l (timeOf c) (peerOf c)
