@@ -21,6 +21,6 @@ module _ (s : Slot) (h : Header) {x : ℕ} {inside : Bool} (e : x ≡ expected s
   completed k m = rw (sym e, sym w, k, m)
 
 -- settings whose other bounds are kept
-pub last-bound : (g : Settings) → g .limit ≤ 64 → g .«early_room» ≤ 1460 → g .hold ≤ 65535 → 536 ≤ g .mss → leb (g .mss) 1460 ≡ inRange g
+pub last-bound : (g : Settings) → g .limit ≤ 64 → g .«early_room» ≤ 1460 → g .hold ≤ 65535 → 536 ≤ g .mss → g .mss ≤ 1460 → 1 ≤ g .share → leb (g .share) 64 ≡ inRange g
 unfolding inRange
-last-bound g a b c d = rw (le-leb _ _ a, le-leb _ _ b, le-leb _ _ c, le-leb _ _ d)
+last-bound g a b c d e f = rw (le-leb _ _ a, le-leb _ _ b, le-leb _ _ c, le-leb _ _ d, le-leb _ _ e, le-leb _ _ f)

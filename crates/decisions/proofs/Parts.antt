@@ -1,10 +1,11 @@
 -- The rules on the parts of a view are the rules on the view. Assumes nothing.
-use Prim.Native.Nat.{ℕ}
+use Prim.Native.Nat.{ℕ, _≤_}
 use mathlib.Core.Path.{_≡_, refl, ap, sym, _∙_}
 use mathlib.Core.Bool.{Bool, true, false, cond, _&&_, true≢false, false≢true}
 use mathlib.Core.List.{List}
 use native.Mathlib.Omega.{arith}
 use lib.Dec.{ltb}
+use borrow.Author.Tests.{ltb-true, lt-ltb}
 use Rattle.segment.specs.Header.{fieldsOf, kindOf, optionArea}
 use Rattle.segment.specs.Options.{readOptions, isCounted, codingOf}
 use Rattle.segment.specs.declared.refusal.Refusal.{Refusal}
@@ -25,7 +26,7 @@ use Rattle.protocol.specs.declared.state.Keys.{Keys}
 use Rattle.protocol.specs.declared.state.View.{View}
 use Rattle.protocol.proofs.Cookie.{carried-syn, never-right, no-cookie}
 use Rattle.protocol.proofs.Openings.{early-is, fresh-is}
-use Rattle.decisions.specs.Parts.{hasKind, isOpening, openingChecks, openingCheck, enabledWith, optionIfEnabled, isFreshFor, laterChecks, laterEvent, laterSlot}
+use Rattle.decisions.specs.Parts.{hasKind, isOpening, openingChecks, openingCheck, enabledWith, slotsToCount, optionIfEnabled, isFreshFor, laterChecks, laterEvent, laterSlot}
 use Rattle.decisions.specs.declared.checks.OpeningCheck.the-variants as openings
 
 -- Kinds
@@ -59,6 +60,16 @@ was-new (Refused q) free e = absurd (let z : _≡_ {A = ℕ} 0 1 = cc in omega a
 was-new Clear true e = (refl, refl)
 was-new Clear false e = absurd (let z : _≡_ {A = ℕ} 0 1 = cc in omega arith)
 
+-- no option, allowed or not
+absent : (b : Bool) → cond b Absent Absent ≡ Absent
+absent true = refl
+absent false = refl
+
+uncounted : (f : FastOpenOption) → isCounted f ≡ false → f ≡ Absent
+uncounted Absent e = refl
+uncounted (Request coding) e = absurd (true≢false e)
+uncounted (Cookie coding at len) e = absurd (true≢false e)
+
 -- A new opening: where cookies are not enabled, or no option counts, it is plain and gets no cookie; else the option decides.
 module _ (keys : Keys) (b area : List ℕ) where
   plain : (enabled : Bool) (f : FastOpenOption) → isCounted (cond enabled f Absent) ≡ false
@@ -74,6 +85,12 @@ module _ (keys : Keys) (b area : List ℕ) where
   by-option false f e = absurd (false≢true e)
   by-option true f e = (refl, refl)
 
+-- two terms, one after the other
+one-after-other : (a b c : Bool) (f : FastOpenOption) → cond c (cond (a && b) f Absent) Absent ≡ cond (a && (b && c)) f Absent
+one-after-other true true c f = refl
+one-after-other true false c f = absent c
+one-after-other false b c f = absent c
+
 -- it counts only where cookies are enabled, and then it is the one that was found
 counted-found : (enabled : Bool) (f : FastOpenOption) → isCounted (cond enabled f Absent) ≡ true → cond enabled f Absent ≡ f
 counted-found false f e = absurd (false≢true e)
@@ -88,8 +105,23 @@ module _ (v : View) where
   pub opening-checks : (h : Header) → openingChecks (v .slot) (v .vacant) h ≡ kindChecks v h Syn
   opening-checks h = refl
 
-  pub enabled-with : (pending : ℕ) → v .below ≡ ltb pending (v .settings .limit) → enabledWith (v .settings) pending ≡ cookiesEnabled v
-  enabled-with pending e = rw e
+  -- The option is allowed by the settings and pending, and then by the share of the address: `own` of its own are counted, in no slot or in all, where `from` are there.
+  module _ {pending from : ℕ} (below : v .below ≡ ltb pending (v .settings .limit)) (within : v .within ≡ ltb from (v .settings .share)) (some : from ≤ pending) where
+    pub by-share : (own : ℕ) (read allowed : FastOpenOption) → allowed ≡ optionIfEnabled (enabledWith (v .settings) pending) read
+        → (slotsToCount (v .settings .share) pending allowed ≡ 0 → own ≡ 0) → (slotsToCount (v .settings .share) pending allowed ≡ 64 → own ≡ from)
+        → optionIfEnabled (ltb own (v .settings .share)) allowed ≡ optionIfEnabled (cookiesEnabled v) read
+    by-share own read allowed ea none all =
+        settled (ltb pending (v .settings .share)) refl (isCounted allowed) refl
+        ∙ (ap (optionIfEnabled (ltb from (v .settings .share))) ea
+        ∙ rw (below, within) (one-after-other (v .settings .on) (ltb pending (v .settings .limit)) (ltb from (v .settings .share)) read))
+      where
+        settled : (few : Bool) → ltb pending (v .settings .share) ≡ few → (counted : Bool) → isCounted allowed ≡ counted
+            → optionIfEnabled (ltb own (v .settings .share)) allowed ≡ optionIfEnabled (ltb from (v .settings .share)) allowed
+        settled true e counted q =
+            let h = ltb-true pending (v .settings .share) e in
+            rw (lt-ltb own (v .settings .share) (omega (arith, none (rw e))), lt-ltb from (v .settings .share) (omega (arith, some)))
+        settled false e true q = rw (all (rw (e, q)))
+        settled false e false q = rw (uncounted allowed q) (absent (ltb own (v .settings .share)) ∙ sym (absent (ltb from (v .settings .share))))
 
   -- its slot, and whether a fresh cookie goes with its SYN-ACK
   pub new-slot : (end : ℕ) (b : List ℕ) (h : Header) (iss : ℕ) (early : Bool) (n : ℕ)

@@ -6,6 +6,7 @@ use mathlib.Core.List.{List, [], _∷_}
 use mathlib.Core.Bool.{Bool, true, false, cond, not, _&&_, _||_}
 use lib.Dec.{ltb}
 use Rattle.segment.specs.Refusal.{Checks}
+use Rattle.segment.specs.Options.{isCounted}
 use Rattle.segment.specs.declared.refusal.Refusal.the-variants.{Flags, NameInUse, TableFull}
 use Rattle.segment.specs.declared.refusal.Check.{Check}
 use Rattle.segment.specs.declared.refusal.Check.the-variants.{Clear, Refused}
@@ -15,7 +16,7 @@ use Rattle.segment.specs.declared.header.Header.{Header}
 use Rattle.segment.specs.declared.header.Kind.{Kind}
 use Rattle.segment.specs.declared.header.Kind.the-variants.{Syn, Rst, Ack, Other}
 use Rattle.protocol.specs.Cookie.{Carried, counts, rightUnder}
-use Rattle.protocol.specs.Table.{isFree, afterReset, withStatus}
+use Rattle.protocol.specs.Table.{slotCount, isFree, afterReset, withStatus}
 use Rattle.protocol.specs.Refusals.{repeats, completes, resets, sequenceChecks}
 use Rattle.protocol.specs.declared.state.Keys.{Keys}
 use Rattle.protocol.specs.declared.state.StoredSettings.{StoredSettings}
@@ -53,9 +54,13 @@ openingCheck (Refused r) free = openings.Refused r
 openingCheck Clear true = openings.New
 openingCheck Clear false = openings.Repeat
 
--- cookies are taken and given, with so many pending
+-- cookies are taken and given, with so many pending, as far as the share of the address allows
 abbrev pub enabledWith : StoredSettings → ℕ → Bool
 enabledWith g pending = g .on && ltb pending (g .limit)
+
+-- how many slots are counted for the number of the opening's own address: all, or none where it is below the share in any case, or no option counts
+abbrev pub slotsToCount : ℕ → ℕ → FastOpenOption → ℕ
+slotsToCount share pending fast = cond (ltb pending share) 0 (cond (isCounted fast) slotCount 0)
 
 -- the option by which a new opening is answered, from the one that was read: none where cookies are not enabled
 abbrev pub optionIfEnabled : Bool → FastOpenOption → FastOpenOption

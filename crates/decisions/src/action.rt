@@ -1,6 +1,7 @@
 // What a segment that was not refused does to its connection.
 use cookie::check_option;
 use protocol::outcome::Event;
+use protocol::slots::SLOTS;
 use protocol::slots::Slot;
 use protocol::slots::Status;
 use protocol::state::Keys;
@@ -8,17 +9,18 @@ use protocol::state::StoredSettings;
 use segment::header::Header;
 use segment::header::Kind;
 use segment::options::FastOpenOption;
+use segment::options::is_counted;
 use table::slot::after_reset;
 use table::slot::new_slot;
 use table::slot::with_status;
 ghost use mathlib.Core.Path.{_≡_};
 ghost use mathlib.Core.Bool.{true};
-ghost use Prim.Native.Nat.{min};
+ghost use Prim.Native.Nat.{min, _≤_};
 ghost use lib.ListN.{length};
 ghost use Rattle.protocol.specs.Cookie.{cookieUnder, found, right};
-ghost use Rattle.protocol.specs.Table.{newSlot};
+ghost use Rattle.protocol.specs.Table.{slotCount, newSlot};
 ghost use Rattle.protocol.specs.Step.{newEvent, newStatus};
-ghost use Rattle.decisions.specs.Parts.{isOpening, enabledWith, optionIfEnabled, isFreshFor, laterEvent, laterSlot};
+ghost use Rattle.decisions.specs.Parts.{isOpening, enabledWith, slotsToCount, optionIfEnabled, isFreshFor, laterEvent, laterSlot};
 
 // Whether a segment asks for a connection.
 pub fn is_opening(kind: Kind) -> bool
@@ -51,12 +53,26 @@ fn accept(payload: &[u8], early_room: u32) -> u32
     early_room
 }
 
-// Cookies are taken and given while Fast Open is on and pending is below the limit.
+// Cookies are taken and given while Fast Open is on and pending is below the limit; the address's share is asked for after that.
 pub fn cookies_enabled(g: StoredSettings, pending: u32) -> bool
     ensures { λ r. ⌜ r ≡ enabledWith g pending ⌝ }
 {
     let below = pending < g.limit;
     if g.on { below } else { false }
+}
+
+// How many slots to count for the number of the opening's own address: none where it is below the share without a count, since it is at most pending, or
+// where nothing depends on it, since no option counts.
+pub fn slots_to_count(share: u32, pending: u32, fast: FastOpenOption) -> usize
+    ensures { λ r. ⌜ (r ≡ slotsToCount share pending fast) × (r ≤ slotCount) ⌝ }
+{
+    if pending < share {
+        return 0;
+    }
+    if is_counted(fast) {
+        return SLOTS;
+    }
+    0
 }
 
 // The Fast Open option by which a new opening is answered: none where cookies are not enabled.

@@ -3,10 +3,12 @@ use endpoint::address::size_of;
 use endpoint::checks::check_name;
 use protocol::slots::Slot;
 use protocol::slots::Status;
+use protocol::state::LEAST_SHARE;
 use protocol::state::LocalEndpoint;
 use protocol::state::MOST_EARLY_ROOM;
 use protocol::state::MOST_HOLD;
 use protocol::state::MOST_LIMIT;
+use protocol::state::MOST_SHARE;
 use protocol::state::Settings;
 use segment::checksum::is_checksum_right;
 use segment::header::Header;
@@ -207,7 +209,13 @@ pub fn is_in_range(g: Settings) -> bool
     if g.mss < LEAST_MSS {
         return false;
     }
-    g.mss <= MOST_MSS
+    if MOST_MSS < g.mss {
+        return false;
+    }
+    if g.share < LEAST_SHARE {
+        return false;
+    }
+    g.share <= MOST_SHARE
 }
 
 // Whether a call by name may free the connection: close an established one, abandon one that waits.

@@ -30,7 +30,7 @@ use Rattle.endpoint.specs.Address.{block}
 use Rattle.endpoint.specs.Checks.{isUntimely}
 use Rattle.endpoint.proofs.Clear.{every-check}
 use Rattle.protocol.specs.Cookie.{cookieUnder, found, right}
-use Rattle.protocol.specs.Table.{isFree, isWaiting, freeSlot, newSlot, scanOf}
+use Rattle.protocol.specs.Table.{isFree, isWaiting, freeSlot, newSlot, pendingFrom, scanOf}
 use Rattle.protocol.specs.Call.{Call, segment, sender}
 use Rattle.protocol.specs.View.{ownAddress, slotAt, scanFor, view}
 use Rattle.protocol.specs.Refusals.{kindChecks, wireChecks}
@@ -42,14 +42,14 @@ use Rattle.protocol.specs.declared.outcome.Event.the-variants as events
 use Rattle.protocol.specs.declared.slots.Status.the-variants.{SynReceived}
 use Rattle.protocol.specs.declared.slots.Slot.{Slot}
 use Rattle.protocol.specs.declared.slots.Scan.{Scan}
-use Rattle.protocol.proofs.Table.{not-free}
+use Rattle.protocol.proofs.Table.{not-free, from-some}
 use Rattle.protocol.proofs.Step.{refusedWith, segment-refused, segment-writes-none, segment-writes, wired-formed}
 use Rattle.table.proofs.ScanOf.{in-table}
-use Rattle.decisions.specs.Parts.{hasKind, isOpening, openingChecks, openingCheck, enabledWith, optionIfEnabled, laterChecks, laterEvent, laterSlot}
+use Rattle.decisions.specs.Parts.{hasKind, isOpening, openingChecks, openingCheck, enabledWith, slotsToCount, optionIfEnabled, laterChecks, laterEvent, laterSlot}
 use Rattle.decisions.specs.declared.action.Opened.{Opened}
 use Rattle.decisions.specs.declared.checks.OpeningCheck.{OpeningCheck}
 use Rattle.decisions.specs.declared.checks.OpeningCheck.the-variants as openings
-use Rattle.decisions.proofs.Parts.{no-kind, opening-kind, was-refused, was-repeat, was-new, opening-checks, enabled-with, opens-plain, opens-by-option, opens-in-coding, new-slot, new-fresh, new-writes, later-checks, later-event, later-slot}
+use Rattle.decisions.proofs.Parts.{no-kind, opening-kind, was-refused, was-repeat, was-new, opening-checks, by-share, opens-plain, opens-by-option, opens-in-coding, new-slot, new-fresh, new-writes, later-checks, later-event, later-slot}
 use Rattle.decisions.proofs.Opened.{Opens}
 
 -- a new connection, early or plain, takes the lowest free place
@@ -135,13 +135,14 @@ module _ (l : Listener) (t : ℕ) (src seg : List ℕ) (iss out-len : ℕ) (firs
             let some : not (isFree (s .status)) || ltb (scan .free) 64 ≡ true = not-false _ (every-check (openingChecks s (ltb (scan .free) 64) h) (was .0) .1 .0) in
             ltb-true (scan .free) 64 (rw (was .1) at some)
 
-        module _ {enabled : Bool} {area : List ℕ} {report : Report} {fast : FastOpenOption} (ee : enabled ≡ enabledWith (l .settings) (scan .pending))
-            (er : Read area report) (eo : fast ≡ optionIfEnabled enabled (report .options .fast)) where
-          enabled-is : enabled ≡ cookiesEnabled v
-          enabled-is = ee ∙ enabled-with v (scan .pending) (rw scan-is)
-
+        -- the option is allowed by the settings and pending, then by what was counted of the address
+        module _ {enabled : Bool} {area : List ℕ} {report : Report} {allowed fast : FastOpenOption} {end own : ℕ} (ee : enabled ≡ enabledWith (l .settings) (scan .pending))
+            (er : Read area report) (ea : allowed ≡ optionIfEnabled enabled (report .options .fast)) (en : end ≡ slotsToCount (l .settings .share) (scan .pending) allowed)
+            (none : end ≡ 0 → own ≡ 0) (each : end ≡ 64 → own ≡ pendingFrom t b (l .slots)) (eo : fast ≡ optionIfEnabled (ltb own (l .settings .share)) allowed) where
           fast-as : fast ≡ optionIfEnabled (cookiesEnabled v) (readOptions (l .settings .codings) (optionArea seg) .fast)
-          fast-as = rw (enabled-is, report-as er) at eo
+          fast-as =
+              eo ∙ (by-share v {pending = scan .pending} {from = pendingFrom t (block src) (l .slots)} (rw scan-is) refl (rw scan-is (from-some t (block src) (l .slots))) own (report .options .fast) allowed
+              (rw ee at ea) (λ z. none (en ∙ z)) (λ z. rw eb at (each (en ∙ z))) ∙ rw (report-as er) refl)
 
           -- a new connection, early or not, with its slot and whether a fresh cookie goes with its SYN-ACK
           written-new : {early fresh : Bool} {n : ℕ} {e : Event} {new : Slot} {coding : Coding} {cookie : List ℕ} → early ≡ isEarly v (block src) seg → fresh ≡ isFresh v (block src) seg → n ≡ accepts (l .settings) seg

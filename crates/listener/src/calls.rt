@@ -2,8 +2,8 @@
 // and leaves the output alone.
 //
 // A listener is large, and a function that takes one and indexes its slots copies it. So each call goes through the table itself, in the copy that becomes
-// the next listener, which it makes only after its first checks; and each of its ends is a `return`. An opening scans the table, any other call that needs
-// a connection searches it.
+// the next listener, which it makes only after its first checks; and each of its ends is a `return`. An opening scans the table, and counts its own address's
+// where that may matter; any other call that needs a connection searches it.
 use crate::outcome::new_outcome;
 use cipher::expand_key;
 use decisions::action::cookies_enabled;
@@ -13,6 +13,7 @@ use decisions::action::later_slot;
 use decisions::action::open_by_option;
 use decisions::action::open_plain;
 use decisions::action::option_if_enabled;
+use decisions::action::slots_to_count;
 use decisions::checks::OpeningCheck;
 use decisions::checks::Received;
 use decisions::checks::check_later;
@@ -35,6 +36,7 @@ use protocol::outcome::Started;
 use protocol::slots::SLOTS;
 use protocol::slots::Status;
 use protocol::state::FRESH_MSS;
+use protocol::state::FRESH_SHARE;
 use protocol::state::Keys;
 use protocol::state::Listener;
 use protocol::state::LocalEndpoint;
@@ -55,6 +57,7 @@ use table::scan::count_if;
 use table::scan::empty_scan;
 use table::scan::holds_peer;
 use table::scan::index_in_table;
+use table::scan::pends_from;
 use table::scan::scan_slot;
 use table::scan::slot_found;
 use table::slot::free_slot;
@@ -108,6 +111,7 @@ fn blank_listener(local: LocalEndpoint, keys: Keys) -> Listener
             hold: 0,
             mss: FRESH_MSS,
             codings: Codings::NewOnly,
+            share: FRESH_SHARE,
         },
         clock: 0,
     }
@@ -246,7 +250,16 @@ pub fn segment(l: Listener, time: u64, src: &[u8], seg: &[u8], iss: u32, out: &m
                         let remarks = report.remarks;
                         let options = report.options;
                         let read = options.fast;
-                        let fast = option_if_enabled(cookies_enabled(settings, scan.pending), read);
+                        let allowed =
+                            option_if_enabled(cookies_enabled(settings, scan.pending), read);
+                        let end = slots_to_count(settings.share, scan.pending, allowed);
+                        let mut own: u32 = 0;
+                        for k in 0..end {
+                            let s = next.slots[k];
+                            let more = count_if(own, pends_from(time, b, s));
+                            own = more;
+                        }
+                        let fast = option_if_enabled(own < settings.share, allowed);
                         // Without an option no key is read.
                         if !is_counted(fast) {
                             let new = open_plain(b, h, iss);
@@ -333,6 +346,7 @@ pub fn set_settings(mut l: Listener, time: u64, g: Settings) -> Outcome
                 hold: g.hold,
                 mss: g.mss as u16,
                 codings,
+                share: g.share,
             };
             l.settings = kept;
             l.clock = time;

@@ -1,4 +1,4 @@
--- The loops over the slots, which stand in the calls: the scan, and the search for a name alone. Assumes nothing.
+-- The loops over the slots, which stand in the calls: the scan, the search for a name alone, and the count of one address. Assumes nothing.
 use Prim.Native.Nat.{ℕ, _+_, _≤_, _<_}
 use mathlib.Core.Path.{_≡_, sym, _∙_}
 use mathlib.Core.Bool.{Bool, true, false}
@@ -6,11 +6,11 @@ use mathlib.Core.List.{List}
 use native.Mathlib.Omega.{arith}
 use lib.ListN.{length, getD}
 use Rattle.lists.proofs.FirstIndex.{Searched, searched-start, searched-on, searched-found, searched-end}
-use Rattle.protocol.specs.Table.{holdsPeer, scanOf}
-use Rattle.table.specs.Scan.{scanWith, emptyScan}
+use Rattle.protocol.specs.Table.{holdsPeer, pendsFrom, pendingFrom, scanOf}
+use Rattle.table.specs.Scan.{countIf, scanWith, emptyScan}
 use Rattle.protocol.specs.declared.slots.Slot.{Slot}
 use Rattle.protocol.specs.declared.slots.Scan.{Scan}
-use Rattle.table.proofs.ScanOf.{ScannedTo, scan-start, scan-on, scan-end}
+use Rattle.table.proofs.ScanOf.{ScannedTo, scan-start, scan-on, scan-end, CountedTo, counted-start, counted-next, counted-end}
 
 module _ (t : ℕ) (b : List ℕ) (p : ℕ) (slots : List Slot) where
   -- What is known at place i of the table
@@ -45,3 +45,22 @@ module _ (t : ℕ) (b : List ℕ) (p : ℕ) (slots : List Slot) where
 
         pub search-hit : here ≡ true → i ≡ scanOf t b p slots .place
         search-hit q = searched-found (holdsPeer t b p) slots i (k .1) d (omega arith) (sym e ∙ q)
+
+-- The count of one address, in the slots before an end
+module _ (t : ℕ) (b : List ℕ) (slots : List Slot) (end : ℕ) where
+  abbrev pub CountLoop : ℕ → ℕ → Type 0
+  CountLoop i n = (i ≤ end) × CountedTo (pendsFrom t b) slots i n
+
+  pub count-loop-start : CountLoop 0 0
+  count-loop-start = (omega arith, counted-start (pendsFrom t b) slots)
+
+  pub count-loop-on : (i n next : ℕ) (d : Slot) {here : Bool} → length slots ≡ 64 → end ≤ 64 → i < end → CountLoop i n → here ≡ pendsFrom t b (getD slots i d) → next ≡ countIf n here → CountLoop (i + 1) next
+  count-loop-on i n next d full h k c p e = (omega arith, counted-next (pendsFrom t b) slots i n next d full (omega arith) (c .1) p e)
+
+  -- past its end, which is 0 or that of the table
+  module _ (i n : ℕ) (h : end ≤ i) (c : CountLoop i n) where
+    pub counted-none : end ≡ 0 → n ≡ 0
+    counted-none e = omega (arith, c .0, c .1 .few)
+
+    pub counted-each : length slots ≡ 64 → end ≡ 64 → n ≡ pendingFrom t b slots
+    counted-each full e = counted-end (pendsFrom t b) slots i n (omega arith) (c .1)

@@ -88,39 +88,39 @@ count-is : (n i : ℕ) (b : Bool) → n ≤ i → i < 64 → countIf n b ≡ n +
 count-is n i true h k = omega arith
 count-is n i false h k = omega arith
 
--- the pending slots, counted up to place i
-module _ (t : ℕ) (slots : List Slot) where
-  abbrev pends : Slot → Bool
-  pends s = isPending t (s .status)
-
+-- the slots that pass a test, counted up to place i
+module _ (p : Slot → Bool) (slots : List Slot) where
   pub record CountedTo (i n : ℕ) : Type 0 where
-    pub pending : Counted pends slots n i
+    pub passed : Counted p slots n i
     pub few : n ≤ i
 
   pub counted-start : CountedTo 0 0
-  counted-start = record { pending = omega arith; few = omega arith }
+  counted-start = record { passed = omega arith; few = omega arith }
 
-  pub counted-next : (i n next : ℕ) (d : Slot) {here : Bool} → length slots ≡ 64 → i < length slots → CountedTo i n → here ≡ pends (getD slots i d) → next ≡ countIf n here
+  pub counted-next : (i n next : ℕ) (d : Slot) {here : Bool} → length slots ≡ 64 → i < length slots → CountedTo i n → here ≡ p (getD slots i d) → next ≡ countIf n here
       → CountedTo (i + 1) next
-  counted-next i n next d {here} m h k p e =
+  counted-next i n next d {here} m h k q e =
       let c = e ∙ count-is n i here (k .few) (omega arith) in
-      rw c record { pending = counted-on pends slots i d h n here (sym p) (k .pending); few = omega (arith, k .few, bit-most here) }
+      rw c record { passed = counted-on p slots i d h n here (sym q) (k .passed); few = omega (arith, k .few, bit-most here) }
 
-  pub counted-end : (i n : ℕ) → length slots ≤ i → CountedTo i n → n ≡ tally pends slots
-  counted-end i n h k = counted-all pends slots i h n (k .pending)
+  pub counted-end : (i n : ℕ) → length slots ≤ i → CountedTo i n → n ≡ tally p slots
+  counted-end i n h k = counted-all p slots i h n (k .passed)
 
 module _ (t : ℕ) (b : List ℕ) (port : ℕ) (slots : List Slot) where
   abbrev vacant : Slot → Bool
   vacant s = not (isLive t (s .status))
 
+  abbrev pends : Slot → Bool
+  pends s = isPending t (s .status)
+
   -- what is known when the scan has come to place i
   pub record ScannedTo (i : ℕ) (scan : Scan) : Type 0 where
     pub place : firstFrom (holdsPeer t b port) i (drop i slots) (scan .place) ≡ firstIndex (holdsPeer t b port) slots
     pub free : firstFrom vacant i (drop i slots) (scan .free) ≡ firstIndex vacant slots
-    pub pending : CountedTo t slots i (scan .pending)
+    pub pending : CountedTo pends slots i (scan .pending)
 
   pub scan-start : length slots ≡ 64 → ScannedTo 0 emptyScan
-  scan-start n = record { place = first-start (holdsPeer t b port) slots n; free = first-start vacant slots n; pending = counted-start t slots }
+  scan-start n = record { place = first-start (holdsPeer t b port) slots n; free = first-start vacant slots n; pending = counted-start pends slots }
 
   pub scan-on : (i : ℕ) (scan next : Scan) (d : Slot) → length slots ≡ 64 → i < length slots → ScannedTo i scan → next ≡ scanWith scan i t b port (getD slots i d) → ScannedTo (i + 1) next
   unfolding scanWith
@@ -128,14 +128,14 @@ module _ (t : ℕ) (b : List ℕ) (port : ℕ) (slots : List Slot) where
       rw (e, present slots i d freeSlot h) record {
         place = first-on (holdsPeer t b port) slots i (scan .place) _ h (k .place);
         free = first-on vacant slots i (scan .free) _ h (k .free);
-        pending = counted-next t slots i (scan .pending) _ freeSlot n h (k .pending) refl refl;
+        pending = counted-next pends slots i (scan .pending) _ freeSlot n h (k .pending) refl refl;
       }
 
   pub scan-end : (i : ℕ) (scan : Scan) → length slots ≤ i → ScannedTo i scan → scan ≡ scanOf t b port slots
   scan-end i scan h k =
       let p = first-end (holdsPeer t b port) slots i (scan .place) _ h (k .place) in
       let f = first-end vacant slots i (scan .free) _ h (k .free) in
-      let n = counted-end t slots i (scan .pending) h (k .pending) in
+      let n = counted-end pends slots i (scan .pending) h (k .pending) in
       λ j. record { place = p j; free = f j; pending = n j }
 
 -- The slot at a place, read in the table; and a slot that is not free stands in it.

@@ -2,6 +2,7 @@
 use crate::slot::free_slot;
 use crate::slot::is_live;
 use crate::slot::is_pending;
+use endpoint::address::same_block;
 use endpoint::address::same_name;
 use protocol::slots::SLOTS;
 use protocol::slots::Scan;
@@ -10,7 +11,7 @@ use std::num::wrapping_add_u32;
 ghost use mathlib.Core.Path.{_≡_};
 ghost use mathlib.Core.Bool.{true};
 ghost use Prim.Native.Nat.{_<_};
-ghost use Rattle.protocol.specs.Table.{slotCount, holdsPeer};
+ghost use Rattle.protocol.specs.Table.{slotCount, holdsPeer, pendsFrom};
 ghost use Rattle.table.specs.Scan.{firstPlace, countIf, scanWith, emptyScan, indexInTable, slotFound};
 
 // Whether the slot holds a connection of this name at the time. The name comes first: in a search for it most slots' statuses need not be read.
@@ -23,6 +24,18 @@ pub fn holds_peer(time: u64, b: [u8; 16], port: u16, s: Slot) -> bool
     }
     let status = s.status;
     is_live(time, status)
+}
+
+// Whether the slot counts in the share of the address with this block: it is pending, and of that address. The status comes first; the address is compared whole.
+pub fn pends_from(time: u64, b: [u8; 16], s: Slot) -> bool
+    ensures { λ r. ⌜ r ≡ pendsFrom time b s ⌝ }
+{
+    let status = s.status;
+    if !is_pending(time, status) {
+        return false;
+    }
+    let a = s.addr;
+    same_block(a, b)
 }
 
 // One more if the test passed here. (A table of 64 never comes near the end of a `u32`.)

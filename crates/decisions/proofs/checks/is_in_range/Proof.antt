@@ -32,9 +32,20 @@ returns-4 c =
     rw (le-leb (g .limit) 64 (omega (arith, c .before .before .before .before .before .before .if1 .left)), le-leb (g .«early_room») 1460 (omega (arith, c .before .before .before .before .if2 .left)), le-leb (g .hold) 65535 (omega (arith, c .before .before .if3 .left)), lt-leb 536 (g .mss) (omega arith))
 
 returns-5 : tie.Need-returns-5
+unfolding inRange
 returns-5 c =
-    last-bound _ (omega (arith, c .before .before .before .before .before .before .before .if1 .left)) (omega (arith, c .before .before .before .before .before .if2 .left)) (omega (arith, c .before .before .before .if3 .left))
-    (omega (arith, c .before .if4 .left))
+    let g = c .before .before .before .before .before .before .before .before .before .before .args .g in
+    rw (le-leb (g .limit) 64 (omega (arith, c .before .before .before .before .before .before .before .before .if1 .left)), le-leb (g .«early_room») 1460 (omega (arith, c .before .before .before .before .before .before .if2 .left)), le-leb (g .hold) 65535 (omega (arith, c .before .before .before .before .if3 .left)), le-leb 536 (g .mss) (omega (arith, c .before .before .if4 .left)), lt-leb (g .mss) 1460 (omega arith))
+
+returns-6 : tie.Need-returns-6
+unfolding inRange
+returns-6 c =
+    let g = c .before .before .before .before .before .before .before .before .before .before .before .before .args .g in
+    rw (le-leb (g .limit) 64 (omega (arith, c .before .before .before .before .before .before .before .before .before .before .if1 .left)), le-leb (g .«early_room») 1460 (omega (arith, c .before .before .before .before .before .before .before .before .if2 .left)), le-leb (g .hold) 65535 (omega (arith, c .before .before .before .before .before .before .if3 .left)), le-leb 536 (g .mss) (omega (arith, c .before .before .before .before .if4 .left)), le-leb (g .mss) 1460 (omega (arith, c .before .before .if5 .left)), lt-leb 1 (g .share) (omega arith))
+
+returns-7 : tie.Need-returns-7
+returns-7 c =
+    last-bound _ (omega (arith, c .before .before .before .before .before .before .before .before .before .before .before .if1 .left)) (omega (arith, c .before .before .before .before .before .before .before .before .before .if2 .left)) (omega (arith, c .before .before .before .before .before .before .before .if3 .left)) (omega (arith, c .before .before .before .before .before .if4 .left)) (omega (arith, c .before .before .before .if5 .left)) (omega (arith, c .before .if6 .left))
 
 pub is-in-range-spec : {M : Type 1} → statement M
-is-in-range-spec = tie.close (tie.spec returns returns-2 returns-3 returns-4 returns-5)
+is-in-range-spec = tie.close (tie.spec returns returns-2 returns-3 returns-4 returns-5 returns-6 returns-7)

@@ -4,13 +4,14 @@ use Prim.Native.Nat.{_-_, _≤_, _<_}
 use mathlib.Core.Path.{_≡_}
 use native.Mathlib.Omega.{arith}
 use lib.ListN.{length, length-map}
+use Rattle.protocol.specs.Table.{isPending}
 use Rattle.table.proofs.ScanOf.{CountedTo, counted-start, counted-next, counted-end}
 use borrow.Author.Needs.{needs}
 use Rattle.listener.proofs.calls.count_pending.Statement.{statement}
 use Rattle.listener.proofs.calls.count_pending.Tie as tie
 
 abbrev Inv-loop : tie.InvT-loop
-Inv-loop l clock n₀ i₀ n i = (i ≤ 64) × CountedTo clock (l .slots) i n
+Inv-loop l clock n₀ i₀ n i = (i ≤ 64) × CountedTo (λ s. isPending clock (s .status)) (l .slots) i n
 
 abbrev μ-loop : tie.MeasureT-loop
 μ-loop l clock n₀ i₀ n i = 64 - i
