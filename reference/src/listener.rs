@@ -11,6 +11,9 @@ const SHORT_ANSWER: usize = 24;
 const COOKIE_ANSWER: usize = 36;
 const RECEIVE_SPAN: u32 = 65_535;
 
+/// The widest share, which leaves every slot to one address.
+pub const WHOLE_SHARE: u32 = SLOTS as u32;
+
 #[derive(Clone, Copy, Debug, PartialEq, Eq)]
 pub enum Verdict {
     Early,
@@ -80,7 +83,7 @@ impl Slot {
         }
     }
 
-    fn is_pending(&self, time: u64) -> bool {
+    pub fn is_pending(&self, time: u64) -> bool {
         match self.status {
             Status::Early { .. } => true,
             Status::Held { until } => until > time,
@@ -114,14 +117,27 @@ pub struct Settings {
     pub hold: u32,
     pub mss: u32,
     pub codings: Codings,
+    /// From so many pending ones up an address gets no early opening.
+    pub share: u32,
 }
 
 impl Settings {
-    const FRESH: Settings =
-        Settings { on: false, limit: 0, room: 0, hold: 0, mss: 536, codings: Codings::New };
+    const FRESH: Settings = Settings {
+        on: false,
+        limit: 0,
+        room: 0,
+        hold: 0,
+        mss: 536,
+        codings: Codings::New,
+        share: WHOLE_SHARE,
+    };
 
     fn in_range(&self) -> bool {
-        self.limit <= 64 && self.room <= 1460 && self.hold <= 65_535 && (536..=1460).contains(&self.mss)
+        self.limit <= 64
+            && self.room <= 1460
+            && self.hold <= 65_535
+            && (536..=1460).contains(&self.mss)
+            && (1..=WHOLE_SHARE).contains(&self.share)
     }
 }
 
@@ -147,6 +163,8 @@ struct Survey {
     named: Option<usize>,
     free: Option<usize>,
     pending: u32,
+    /// Those of them from the named source address, whatever their port.
+    from_source: u32,
 }
 
 impl Listener {
@@ -287,7 +305,7 @@ impl Front {
     }
 
     fn survey(&self, name: Name, time: u64) -> Survey {
-        let mut survey = Survey { named: None, free: None, pending: 0 };
+        let mut survey = Survey { named: None, free: None, pending: 0, from_source: 0 };
         for (place, slot) in self.slots.iter().enumerate() {
             if slot.is_free(time) {
                 survey.free = survey.free.or(Some(place));
@@ -296,7 +314,10 @@ impl Front {
             if slot.name == name {
                 survey.named = Some(place);
             }
-            survey.pending += u32::from(slot.is_pending(time));
+            if slot.is_pending(time) {
+                survey.pending += 1;
+                survey.from_source += u32::from(slot.name.block == name.block);
+            }
         }
         survey
     }
@@ -328,7 +349,11 @@ impl Front {
 
         let irs = segment.sequence();
         let options = self.read_options(segment);
-        let allowed = self.settings.on && survey.pending < self.settings.limit;
+        // One address past its share is served like all when the limit is reached: plainly, and
+        // without a cookie.
+        let allowed = self.settings.on
+            && survey.pending < self.settings.limit
+            && survey.from_source < self.settings.share;
         let mut early = false;
         let mut fresh = None;
         if let Some(option) = options.fast_open.filter(|_| allowed) {

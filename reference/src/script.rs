@@ -4,7 +4,7 @@ use std::fmt::Write as _;
 use std::io::{self, BufRead, Write};
 
 use crate::client::{Attempt, Client, Learnt, Opened};
-use crate::listener::{accepted_part, Kind, Listener, Reply, Settings, Verdict};
+use crate::listener::{accepted_part, Kind, Listener, Reply, Settings, Verdict, WHOLE_SHARE};
 use crate::wire::{Codings, Reading, Refusal};
 
 pub const LONGEST_LINE: usize = 8192;
@@ -135,6 +135,14 @@ impl<'a> Words<'a> {
         }
     }
 
+    /// The share, which a line may leave out; it stands only behind a coding setting.
+    fn share(&mut self) -> Option<u32> {
+        match self.end() {
+            Some(()) => Some(WHOLE_SHARE),
+            None => self.u32(),
+        }
+    }
+
     fn end(&self) -> Option<()> {
         (self.next == self.words.len()).then_some(())
     }
@@ -262,9 +270,9 @@ impl Session for ListenerSession {
                 };
                 let (limit, room) = (words.u32()?, words.u32()?);
                 let (hold, mss) = (words.u32()?, words.u32()?);
-                let codings = words.codings()?;
+                let (codings, share) = (words.codings()?, words.share()?);
                 words.end()?;
-                let settings = Settings { on, limit, room, hold, mss, codings };
+                let settings = Settings { on, limit, room, hold, mss, codings, share };
                 let result = self.listener.settings(time, settings);
                 Some(self.by_rote(result.map(|()| 0), &[]))
             }

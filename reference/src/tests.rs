@@ -1,12 +1,15 @@
 //! Tests of the listener, the client and the scripts together.
 
-use std::collections::BTreeMap;
+use std::collections::{BTreeMap, BTreeSet};
 
 use crate::client::{Attempt, Client, Learnt, Memory, BAN_MS, LEAST_OUTPUT as CLIENT_OUTPUT};
 use crate::generate;
-use crate::listener::{accepted_part, cookie, Kind, Listener, Reply, Settings, Verdict, LEAST_OUTPUT};
+use crate::listener::{
+    accepted_part, cookie, Kind, Listener, Reply, Settings, Slot, Status, Verdict, LEAST_OUTPUT,
+};
 use crate::script::{self, ClientSession, ListenerSession, Session};
 use crate::summary::Summary;
+use crate::timing;
 use crate::wire::{self, Coding, Codings, Header, Reading, Refusal, ACK, FIN, LAST_TIME, RST, SYN};
 
 const KEY: [u8; 16] = [0, 1, 2, 3, 4, 5, 6, 7, 8, 9, 10, 11, 12, 13, 14, 15];
@@ -14,7 +17,7 @@ const OWN: [u8; 4] = [192, 0, 2, 2];
 const PEER: [u8; 4] = [192, 0, 2, 1];
 const PORT: u16 = 40_000;
 const SETTINGS: Settings =
-    Settings { on: true, limit: 8, room: 1460, hold: 0, mss: 1460, codings: Codings::New };
+    Settings { on: true, limit: 8, room: 1460, hold: 0, mss: 1460, codings: Codings::New, share: 64 };
 const BOTH: Settings = Settings { codings: Codings::Both, ..SETTINGS };
 /// The codings with the settings that count them.
 const COUNTED: [(Coding, Settings); 3] =
@@ -636,6 +639,307 @@ fn times() {
     assert_eq!(front.listener.key(u64::MAX, &[]), Err(Refusal::Time));
 }
 
+// The share
+
+/// A front of either family, and segments from any address with their own numbers.
+struct Site {
+    listener: Listener,
+    own: Vec<u8>,
+    out: [u8; LEAST_OUTPUT],
+}
+
+/// The number of every opening at a site, and ours.
+const THEIRS: u32 = 7;
+const OURS: u32 = 1000;
+
+impl Site {
+    fn with(family: usize, settings: Settings) -> Site {
+        let own = vec![9; family];
+        let mut listener = Listener::start(&own, 443, &KEY).unwrap();
+        listener.settings(0, settings).unwrap();
+        Site { listener, own, out: [0xa5; LEAST_OUTPUT] }
+    }
+
+    fn set(&mut self, settings: Settings) {
+        let clock = self.listener.front().unwrap().clock();
+        self.listener.settings(clock, settings).unwrap();
+    }
+
+    fn segment(
+        &mut self,
+        time: u64,
+        source: &[u8],
+        header: Header,
+        options: &[u8],
+        payload: &[u8],
+    ) -> Result<Reply, Refusal> {
+        let mut segment = [&[0; 20], options, payload].concat();
+        wire::finish(&mut segment, &header, options.len(), source, &self.own);
+        self.out.fill(0xa5);
+        self.listener.segment(time, source, OURS, &segment, &mut self.out)
+    }
+
+    /// An opening with one byte: its verdict and how long its answer is.
+    fn open_with(
+        &mut self,
+        time: u64,
+        source: &[u8],
+        port: u16,
+        options: &[u8],
+    ) -> Result<(Verdict, usize), Refusal> {
+        let reply = self.segment(time, source, header(port, THEIRS, SYN), options, b"x")?;
+        let Kind::Opening(verdict) = reply.kind else { panic!("no opening: {reply:?}") };
+        assert_eq!(reply.accepted, usize::from(verdict == Verdict::Early));
+        Ok((verdict, reply.written))
+    }
+
+    /// One with the address's right cookie.
+    fn open(&mut self, time: u64, source: &[u8], port: u16) -> Result<(Verdict, usize), Refusal> {
+        self.open_with(time, source, port, &fast_open(&cookie(&KEY, source)))
+    }
+
+    /// So many of them at time 0, which are early, from port 0 on.
+    fn fill(&mut self, source: &[u8], count: u16) {
+        for port in 0..count {
+            assert_eq!(self.open(0, source, port), EARLY, "{port}");
+        }
+    }
+
+    /// Completes or resets an early one.
+    fn finish(&mut self, time: u64, source: &[u8], port: u16, flags: u8) {
+        self.segment(time, source, header(port, THEIRS + 2, flags), &[], &[]).unwrap();
+    }
+}
+
+fn header(port: u16, sequence: u32, flags: u8) -> Header {
+    Header { source_port: port, destination_port: 443, sequence, acknowledgement: OURS + 1, flags }
+}
+
+const EARLY: Result<(Verdict, usize), Refusal> = Ok((Verdict::Early, 24));
+const PLAIN: Result<(Verdict, usize), Refusal> = Ok((Verdict::Plain, 24));
+const REPEAT: Result<(Verdict, usize), Refusal> = Ok((Verdict::Repeat, 24));
+/// Plain, with a fresh cookie.
+const ANSWERED: Result<(Verdict, usize), Refusal> = Ok((Verdict::Plain, 36));
+/// A limit that is out of the way, so that the share decides.
+const SHARED: Settings = Settings { limit: 64, share: 8, ..SETTINGS };
+
+/// Two addresses of each family.
+fn hospitals() -> [[Vec<u8>; 2]; 2] {
+    [4, 16].map(|family| [1, 2].map(|n| vec![n; family]))
+}
+
+#[test]
+fn forty_analysers_on_monday() {
+    for [one, other] in hospitals() {
+        for (coding, settings) in COUNTED {
+            let option = |source: &[u8]| coded(coding, &cookie(&KEY, source));
+            let mut site = Site::with(one.len(), Settings { limit: 64, share: 8, ..settings });
+            assert_eq!(site.open_with(0, &one, 99, &coded(coding, &[])), ANSWERED);
+            assert_eq!(site.out[24..36], coded(coding, &cookie(&KEY, &one)));
+            for port in 0..40 {
+                let expected = if port < 8 { EARLY } else { PLAIN };
+                assert_eq!(site.open_with(0, &one, port, &option(&one)), expected, "{port}");
+            }
+            assert_eq!(site.listener.pending(), 8);
+            assert_eq!(site.open_with(0, &other, 0, &option(&other)), EARLY);
+            assert_eq!(site.listener.pending(), 9);
+        }
+    }
+}
+
+#[test]
+fn a_fresh_share_is_the_whole_table() {
+    let started = Listener::start(&OWN, 443, &KEY).unwrap();
+    assert_eq!(started.front().unwrap().current_settings().share, 64);
+    for share in [1, 2, 63, 64] {
+        let [one, other] = &hospitals()[0];
+        let mut site = Site::with(4, Settings { share, ..SHARED });
+        site.fill(one, share as u16);
+        let past = site.open(0, one, 1000);
+        assert_eq!(past, if share == 64 { Err(Refusal::TableFull) } else { PLAIN }, "{share}");
+        let last = site.open(0, other, 0);
+        assert_eq!(last, if share >= 63 { Err(Refusal::TableFull) } else { EARLY }, "{share}");
+    }
+}
+
+#[test]
+fn share_range() {
+    let [one, _] = &hospitals()[0];
+    let mut site = Site::with(4, Settings { share: 1, ..SHARED });
+    site.fill(one, 1);
+    for share in [0, 65, 66, 257, 65_537, u32::MAX] {
+        let wrong = Settings { share, on: false, ..SHARED };
+        assert_eq!(site.listener.settings(5, wrong), Err(Refusal::Range), "{share}");
+        assert_eq!(site.listener.settings(LAST_TIME + 1, wrong), Err(Refusal::Time), "{share}");
+        let mut never = Listener::never_started();
+        assert_eq!(never.settings(0, wrong), Err(Refusal::NeverStarted), "{share}");
+    }
+    let front = site.listener.front().unwrap();
+    assert_eq!((front.clock(), front.current_settings().share), (0, 1), "nothing has changed");
+    assert_eq!(site.open(0, one, 1), PLAIN);
+    for share in 1..=64 {
+        assert_eq!(site.listener.settings(0, Settings { share, ..SHARED }), Ok(()), "{share}");
+    }
+    assert_eq!(site.open(0, one, 2), EARLY);
+}
+
+#[test]
+fn the_share_is_by_address() {
+    for [one, other] in hospitals() {
+        let mut site = Site::with(one.len(), Settings { share: 1, ..SHARED });
+        site.fill(&one, 1);
+        assert_eq!(site.open(0, &one, 1), PLAIN, "another port is no other address");
+        assert_eq!(site.open(0, &other, 0), EARLY, "the same port is not the same address");
+        assert_eq!(site.open(0, &other, 1), PLAIN);
+        // Every bit of the address tells.
+        for bit in 0..8 * one.len() {
+            let mut near = one.clone();
+            near[bit / 8] ^= 1 << (bit % 8);
+            assert_eq!(site.open(0, &near, 0), EARLY, "{bit}");
+            assert_eq!(site.open(0, &near, 1), PLAIN, "{bit}");
+            for port in [0, 1] {
+                site.listener.abandon(0, &near, port).unwrap();
+            }
+        }
+        assert_eq!(site.open(0, &one, 2), PLAIN);
+    }
+}
+
+#[test]
+fn no_cookie_from_the_share_up() {
+    let other_key = [9; 16];
+    for [one, other] in hospitals() {
+        let right = cookie(&other_key, &one);
+        // What is offered, and what it gets below the share; from there up it is all the same.
+        let offers = [
+            (fast_open(&right), EARLY),
+            (fast_open(&[]), ANSWERED),
+            (fast_open(&[7; 8]), ANSWERED),
+            (fast_open(&[7; 4]), ANSWERED),
+            (fast_open(&cookie(&other_key, &other)), ANSWERED),
+            (fast_open(&cookie(&KEY, &one)), Ok((Verdict::Early, 36))),
+            (vec![2, 4, 5, 0xb4], PLAIN),
+            (vec![], PLAIN),
+        ];
+        for (options, below) in offers {
+            for (share, expected) in [(3, below), (2, PLAIN), (1, PLAIN)] {
+                let mut site = Site::with(one.len(), SHARED);
+                site.fill(&one, 2);
+                site.listener.key(0, &other_key).unwrap();
+                site.set(Settings { share, ..SHARED });
+                assert_eq!(site.open_with(0, &one, 50, &options), expected, "{share} {options:?}");
+                // Those who were let in are repeats, the plain one too.
+                for port in [0, 1, 50] {
+                    assert_eq!(site.open_with(0, &one, port, &options), REPEAT, "{share} {options:?}");
+                }
+                let moved = header(0, THEIRS + 1, SYN);
+                let reply = site.segment(0, &one, moved, &options, b"x");
+                assert_eq!(reply, Err(Refusal::NotARepeat), "{share} {options:?}");
+                // Another address gets its cookie.
+                assert_eq!(site.open_with(0, &other, 50, &fast_open(&[])), ANSWERED);
+            }
+        }
+    }
+}
+
+#[test]
+fn held_ones_count_towards_the_share() {
+    for [one, other] in hospitals() {
+        let mut site = Site::with(one.len(), Settings { share: 2, hold: 10, ..SHARED });
+        site.fill(&one, 2);
+        site.finish(5, &one, 0, RST);
+        assert_eq!(site.open(5, &one, 10), PLAIN);
+        assert_eq!(site.open(14, &one, 11), PLAIN, "one before its end");
+        assert_eq!(site.open(14, &other, 11), EARLY);
+        assert_eq!(site.open(15, &one, 12), EARLY, "at its end, by the call's own time");
+        assert_eq!(site.open(15, &one, 13), PLAIN);
+        // Two held ones that end one after the other.
+        site.finish(20, &one, 1, RST);
+        site.finish(22, &one, 12, RST);
+        assert_eq!(site.open(29, &one, 14), PLAIN);
+        assert_eq!(site.open(31, &one, 15), EARLY, "one after the first's end");
+        assert_eq!(site.open(31, &one, 16), PLAIN);
+        assert_eq!(site.open(32, &one, 17), EARLY);
+        assert_eq!(site.open(32, &one, 18), PLAIN);
+        // Without a hold there is room at once.
+        site.set(Settings { share: 2, ..SHARED });
+        site.finish(32, &one, 15, RST);
+        assert_eq!(site.open(32, &one, 19), EARLY);
+    }
+}
+
+#[test]
+fn only_pending_ones_count_towards_the_share() {
+    for [one, _] in hospitals() {
+        let mut site = Site::with(one.len(), Settings { share: 1, hold: 10, ..SHARED });
+        // Plain ones and open ones are no part of it.
+        for port in 100..103 {
+            assert_eq!(site.open_with(0, &one, port, &[]), PLAIN);
+        }
+        site.fill(&one, 1);
+        site.finish(0, &one, 0, ACK);
+        assert_eq!(site.open(0, &one, 1), EARLY, "completed");
+        assert_eq!(site.open(0, &one, 2), PLAIN);
+        site.listener.close(0, &one, 0).unwrap();
+        assert_eq!(site.open(0, &one, 3), PLAIN, "a closed one had made room before");
+        site.listener.abandon(0, &one, 2).unwrap();
+        assert_eq!(site.open(0, &one, 4), PLAIN, "a plain one had taken none");
+        site.listener.abandon(0, &one, 1).unwrap();
+        assert_eq!(site.open(0, &one, 5), EARLY, "abandoned");
+        assert_eq!(site.open(0, &one, 6), PLAIN);
+    }
+}
+
+#[test]
+fn a_lowered_share_touches_no_slot() {
+    for [one, other] in hospitals() {
+        let mut site = Site::with(one.len(), SHARED);
+        site.fill(&one, 5);
+        site.set(Settings { share: 2, ..SHARED });
+        assert_eq!(site.listener.pending(), 5);
+        assert_eq!(site.open(0, &one, 0), REPEAT);
+        assert_eq!(site.open(0, &one, 10), PLAIN);
+        assert_eq!(site.open(0, &other, 10), EARLY);
+        for (port, left) in [(0, 4), (1, 3), (2, 2), (3, 1)] {
+            site.listener.abandon(0, &one, port).unwrap();
+            let expected = if left < 2 { EARLY } else { PLAIN };
+            assert_eq!(site.open(0, &one, 20 + port), expected, "{left}");
+        }
+        // Raised by one, there is room for one.
+        assert_eq!(site.open(0, &one, 30), PLAIN);
+        site.set(Settings { share: 3, ..SHARED });
+        assert_eq!(site.open(0, &one, 30), REPEAT, "what was plain stays so");
+        assert_eq!(site.listener.pending(), 3);
+        assert_eq!(site.open(0, &one, 31), EARLY);
+        assert_eq!(site.open(0, &one, 32), PLAIN);
+    }
+}
+
+#[test]
+fn limit_and_share_both_hold() {
+    for [one, other] in hospitals() {
+        // The limit first.
+        let mut site = Site::with(one.len(), Settings { limit: 2, share: 3, ..SHARED });
+        site.fill(&one, 2);
+        for source in [&one, &other] {
+            assert_eq!(site.open(0, source, 10), PLAIN);
+            assert_eq!(site.open_with(0, source, 11, &fast_open(&[])), PLAIN);
+        }
+        // Both at once, then the share first.
+        for (limit, expected, asking) in [(2, PLAIN, PLAIN), (3, EARLY, ANSWERED)] {
+            let mut site = Site::with(one.len(), Settings { limit, share: 2, ..SHARED });
+            site.fill(&one, 2);
+            assert_eq!(site.open(0, &one, 10), PLAIN);
+            assert_eq!(site.open_with(0, &one, 11, &fast_open(&[])), PLAIN);
+            assert_eq!(site.open_with(0, &other, 11, &fast_open(&[])), asking, "{limit}");
+            assert_eq!(site.open(0, &other, 10), expected, "{limit}");
+        }
+        // Off, no share lets anyone in.
+        let mut site = Site::with(one.len(), Settings { on: false, share: 64, ..SHARED });
+        assert_eq!(site.open(0, &one, 0), PLAIN);
+    }
+}
+
 // The client
 
 struct Caller {
@@ -1099,7 +1403,7 @@ fn lines() {
 }
 
 /// Words behind a line that takes the coding setting, and what it is then; `None` for a bad line.
-const CODING_WORDS: [(&str, Option<Codings>); 16] = [
+const CODING_WORDS: [(&str, Option<Codings>); 15] = [
     (" both", Some(Codings::Both)),
     ("", Some(Codings::New)),
     (" both", Some(Codings::Both)),
@@ -1112,7 +1416,6 @@ const CODING_WORDS: [(&str, Option<Codings>); 16] = [
     (" both ", None),
     ("  both", None),
     (" both both", None),
-    (" new 64", None),
     (" both\t", None),
     (" -", None),
     (" newboth", None),
@@ -1170,10 +1473,95 @@ fn coding_words_of_answers() {
         assert_eq!(memory.bans().count(), usize::from(codings == Some(Codings::New)), "{line}");
     }
     let mut session = ClientSession::new();
+    // A client has no share.
+    for word in ["new 64", "both 8", "64"] {
+        let line = format!("answer 0 c0000201 40000 0a000001 443 7 5 {hex} {word}");
+        assert_eq!(session.line(line.as_bytes()).unwrap(), "bad line", "{line}");
+    }
     for line in ["start 4 both", "failed 0 0a000001 443 new", "answer 0 c0000201 40000 0a000001 443 7 5 both"]
     {
         assert_eq!(session.line(line.as_bytes()).unwrap(), "bad line", "{line}");
     }
+}
+
+#[test]
+fn share_words_of_settings() {
+    let mut session = ListenerSession::new();
+    session.line(b"start c0000202 443 000102030405060708090a0b0c0d0e0f").unwrap();
+    let done = "0 - - 0 0 0 - - kept 0 0 0";
+    let refused = "12 - - 0 0 0 - - kept 0 0 0";
+    let bad = "bad line";
+    let mut last = (Codings::New, 64);
+    for (tail, expected, now) in [
+        (" both 8", done, Some((Codings::Both, 8))),
+        ("", done, Some((Codings::New, 64))),
+        (" new 1", done, Some((Codings::New, 1))),
+        (" both", done, Some((Codings::Both, 64))),
+        (" both 63", done, Some((Codings::Both, 63))),
+        (" new", done, Some((Codings::New, 64))),
+        (" new 2", done, Some((Codings::New, 2))),
+        (" new 64", done, Some((Codings::New, 64))),
+        (" both 0000000000000000000000008", done, Some((Codings::Both, 8))),
+        (" new 0", refused, None),
+        (" both 0", refused, None),
+        (" new 65", refused, None),
+        (" new 4294967295", refused, None),
+        (" new 4294967296", bad, None),
+        (" both 4294967304", bad, None),
+        (" both 18446744073709551624", bad, None),
+        (" 8", bad, None),
+        (" 64", bad, None),
+        (" 8 both", bad, None),
+        (" both 8 8", bad, None),
+        (" both 8 both", bad, None),
+        (" both new 8", bad, None),
+        (" new new", bad, None),
+        (" old 8", bad, None),
+        ("  8", bad, None),
+        (" both ", bad, None),
+        (" both 8 ", bad, None),
+        (" both  8", bad, None),
+        (" both +8", bad, None),
+        (" both -1", bad, None),
+        (" both 0x8", bad, None),
+        (" both -", bad, None),
+        (" both 8\r", bad, None),
+    ] {
+        let line = format!("settings 0 on 8 1460 1000 1460{tail}");
+        assert_eq!(session.line(line.as_bytes()).unwrap(), expected, "{line}");
+        last = now.unwrap_or(last);
+        let (codings, share) = last;
+        let settings = Settings { hold: 1000, codings, share, ..SETTINGS };
+        assert_eq!(session.listener.front().unwrap().current_settings(), settings, "{line}");
+    }
+    assert_eq!(last, (Codings::Both, 8));
+    // Time comes first, and a share in range doesn't help another number that isn't.
+    for (line, number) in [
+        ("settings 281474976710657 on 8 1460 1000 1460 new 0", "5 "),
+        ("settings 0 on 65 1460 1000 1460 new 8", "12 "),
+        ("settings 0 on 8 1460 1000 535 new 8", "12 "),
+        ("key 0 000102030405060708090a0b0c0d0e0f 8", "bad "),
+        ("start c0000202 443 000102030405060708090a0b0c0d0e0f 8", "bad "),
+    ] {
+        assert!(session.line(line.as_bytes()).unwrap().starts_with(number), "{line}");
+    }
+}
+
+#[test]
+fn shares_of_lines() {
+    // A share of one, in lines; a line without one gives the address its room back.
+    let mut session = ListenerSession::new();
+    session.line(b"start c0000202 443 000102030405060708090a0b0c0d0e0f").unwrap();
+    session.line(b"settings 0 on 8 1460 1000 1460 new 1").unwrap();
+    let open = |session: &mut ListenerSession, port| {
+        let segment = hex(&seg(port, 7, 0, SYN, &fast_open(&right()), b"x"));
+        session.line(format!("segment 0 c0000201 1000 36 {segment}").as_bytes()).unwrap()
+    };
+    let starts = |printed: String, expected: &str| assert!(printed.starts_with(expected), "{printed}");
+    starts(open(&mut session, PORT), "0 opening early 1 24 1 ");
+    starts(open(&mut session, PORT + 1), "0 opening plain 0 24 1 ");
+    session.line(b"settings 0 on 8 1460 1000 1460").unwrap();
+    starts(open(&mut session, PORT + 2), "0 opening early 1 24 2 ");
 }
 
 /// The number that a line prints, and what its answer tells.
@@ -1784,5 +2172,259 @@ fn generated_readings_break_off_everywhere() {
     }
     for place in 1..=40 {
         assert!(openings[place] >= 1 && answers[place] >= 1, "{place}: {openings:?} {answers:?}");
+    }
+}
+
+/// What a call did to a listener: its words, those of its answer, and the slots before it with
+/// the settings and clock after it.
+struct Turn<'a> {
+    words: &'a [&'a str],
+    printed: &'a [&'a str],
+    before: &'a [Slot],
+    settings: Settings,
+    clock: u64,
+}
+
+/// Shows each call on a started listener.
+fn each_turn(text: &[u8], mut show: impl FnMut(&Turn)) {
+    let mut before: Vec<Slot> = Vec::new();
+    each_call(ListenerSession::new(), text, |words, printed, session| {
+        let Some(front) = session.listener.front() else { return };
+        let (settings, clock) = (front.current_settings(), front.clock());
+        show(&Turn { words, printed, before: &before, settings, clock });
+        before = front.slots().to_vec();
+    });
+}
+
+/// Whether a script has, directly behind a start: a share of eight of 64, an opening that gets a
+/// cookie, forty from its address of which eight are early and the others plain and without a
+/// cookie, and one from another address that is early. Then how long the address is.
+fn has_monday(text: &[u8]) -> Option<usize> {
+    let mut found = None;
+    // The segments behind a start and settings, or nothing where there was something else.
+    let mut seen: Option<Vec<(Vec<u8>, u16, String)>> = None;
+    each_turn(text, |turn| match turn.words[0] {
+        "start" => seen = Some(Vec::new()),
+        "settings" if seen.as_ref().is_some_and(Vec::is_empty) => {}
+        "segment" => {
+            let Some(seen) = &mut seen else { return };
+            let segment = unhex(turn.words[5]);
+            let port = wire::Segment::parse(&segment).map_or(0, |segment| segment.source_port());
+            let answer = [turn.printed[0], turn.printed[2], turn.printed[4]].join(" ");
+            seen.push((unhex(turn.words[2]), port, answer));
+            let Settings { on: true, limit: 64, share: 8, .. } = turn.settings else { return };
+            if seen.len() != 42 {
+                return;
+            }
+            let expected = |n: usize| match n {
+                0 => "0 plain 36",
+                1..=8 | 41 => "0 early 24",
+                _ => "0 plain 24",
+            };
+            let source = seen[0].0.clone();
+            let ports: BTreeSet<u16> = seen[1..41].iter().map(|call| call.1).collect();
+            let as_expected = seen.iter().enumerate().all(|(n, call)| call.2 == expected(n));
+            let by_source = seen.iter().enumerate().all(|(n, call)| (call.0 == source) == (n < 41));
+            if as_expected && by_source && ports.len() == 40 {
+                found = Some(source.len());
+            }
+        }
+        _ => seen = None,
+    });
+    found
+}
+
+#[test]
+fn generated_scripts_have_monday() {
+    let mut families = BTreeMap::new();
+    for seed in (1..=40).chain([0, 1 << 32, u64::MAX]) {
+        let family = has_monday(&generate::listener(seed, 3000));
+        let family = family.unwrap_or_else(|| panic!("seed {seed}"));
+        *families.entry(family).or_insert(0) += 1;
+    }
+    assert!(families[&4] >= 5 && families[&16] >= 5, "{families:?}");
+    // Not only in the longest.
+    assert!(has_monday(&generate::listener(1, 1000)).is_some());
+    assert!(has_monday(b"start c0000202 443 000102030405060708090a0b0c0d0e0f\n").is_none());
+}
+
+/// The sorts of openings that a share makes a difference to, and what each is answered.
+#[derive(Default)]
+struct Shares(BTreeMap<(&'static str, usize), usize>);
+
+impl Shares {
+    fn add(&mut self, turn: &Turn, keys: &[[u8; 16]]) {
+        let (source, segment) = (unhex(turn.words[2]), unhex(turn.words[5]));
+        let family = source.len();
+        let Settings { on, limit, share, codings, .. } = turn.settings;
+        let (early, held, ended) = (
+            |slot: &Slot| matches!(slot.status, Status::Early { .. }),
+            |slot: &Slot| matches!(slot.status, Status::Held { until } if until > turn.clock),
+            |slot: &Slot| matches!(slot.status, Status::Held { until } if until == turn.clock),
+        );
+        let count = |wanted: &dyn Fn(&Slot) -> bool| turn.before.iter().filter(|s| wanted(s)).count() as u32;
+        let mine = |slot: &Slot| slot.address(family) == source;
+        let pending = |slot: &Slot| early(slot) || held(slot);
+        let all = count(&pending);
+        let own = count(&|slot| mine(slot) && pending(slot));
+        let own_early = count(&|slot| mine(slot) && early(slot));
+        let just_ended = count(&|slot| mine(slot) && ended(slot)) > 0;
+        let ends_next = count(&|slot| {
+            mine(slot) && matches!(slot.status, Status::Held { until } if until == turn.clock + 1)
+        }) > 0;
+        let past_share = turn.before.iter().any(|slot| {
+            let neighbour = slot.address(family);
+            neighbour != source && count(&|s| pending(s) && s.address(family) == neighbour) >= share
+        });
+
+        let area = wire::Segment::parse(&segment).unwrap().options();
+        let option = wire::read_options(area, codings).fast_open;
+        let under = |key: Option<&[u8; 16]>| {
+            key.is_some_and(|key| option.is_some_and(|option| option.cookie == cookie(key, &source)))
+        };
+        let mut back = keys.iter().rev();
+        let (right, outdated) = (under(back.next()), under(back.next()));
+        let below = own < share;
+        let allowed = on && all < limit && below;
+        // The rule, once more.
+        let verdict = if allowed && (right || outdated) { "early" } else { "plain" };
+        let written = if allowed && option.is_some() && !right { "36" } else { "24" };
+        assert_eq!((turn.printed[2], turn.printed[4]), (verdict, written), "{:?}", turn.words);
+
+        let free = on && all < limit;
+        let asks = option.is_some_and(|option| option.cookie.is_empty());
+        for (sort, is_met) in [
+            ("right, last place", free && right && own + 1 == share && share < 64),
+            ("right, at the share", free && right && own == share),
+            ("right, past the share", free && right && own > share),
+            ("request, last place", free && asks && own + 1 == share && share < 64),
+            ("request, from the share up", free && asks && !below),
+            ("wrong, from the share up", free && option.is_some() && !(asks || right || outdated || below)),
+            ("outdated, last place", free && outdated && !right && own + 1 == share && share < 64),
+            ("outdated, from the share up", free && outdated && !right && !below),
+            ("no option, from the share up", free && option.is_none() && !below),
+            ("right, another is at its share", free && right && below && past_share),
+            ("request, another is at its share", free && asks && below && past_share),
+            ("right, held ones decide", free && right && !below && own_early < share),
+            ("right, one held until the next ms", free && right && own == share && ends_next),
+            ("right, one held until now", free && right && own + 1 == share && just_ended && share < 64),
+            ("right, share of one", free && right && own == 1 && share == 1),
+            ("right, limit before the share", on && right && all >= limit && below && share < 64),
+            ("right, limit and share", on && right && all >= limit && !below),
+        ] {
+            *self.0.entry((sort, family)).or_default() += usize::from(is_met);
+        }
+    }
+}
+
+#[test]
+fn generated_openings_meet_the_share() {
+    let mut shares = Shares::default();
+    // By address, what made its number or the share another, after an opening found it taken;
+    // and for how many of those the next opening was let in.
+    let mut room = BTreeMap::new();
+    for seed in 1..=8 {
+        let mut keys: Vec<[u8; 16]> = Vec::new();
+        let mut taken: BTreeMap<Vec<u8>, &str> = BTreeMap::new();
+        let mut last_share = 64;
+        each_turn(&generate::listener(seed, 3000), |turn| {
+            if turn.printed[0] != "0" {
+                return;
+            }
+            let share = turn.settings.share;
+            match turn.words[0] {
+                "start" => {
+                    keys = vec![unhex(turn.words[3]).try_into().unwrap()];
+                    taken.clear();
+                }
+                "key" => keys.push(unhex(turn.words[2]).try_into().unwrap()),
+                "settings" => {
+                    let change = if share > last_share { "raised" } else { "lowered" };
+                    if share != last_share {
+                        taken.values_mut().for_each(|why| *why = change);
+                    }
+                }
+                "abandon" => _ = taken.entry(unhex(turn.words[2])).and_modify(|why| *why = "abandon"),
+                "segment" => {
+                    let source = unhex(turn.words[2]);
+                    match turn.printed[1] {
+                        "completion" => _ = taken.entry(source).and_modify(|why| *why = "completion"),
+                        "reset" => _ = taken.entry(source).and_modify(|why| *why = "reset"),
+                        _ if turn.printed[2] == "repeat" => {}
+                        _ => {
+                            shares.add(turn, &keys);
+                            let pending = turn.before.iter().filter(|slot| slot.is_pending(turn.clock));
+                            let own = pending.filter(|slot| slot.address(source.len()) == source).count();
+                            if own as u32 >= share {
+                                taken.insert(source, "");
+                            } else if turn.printed[2] == "early" {
+                                let why = taken.remove(&source).unwrap_or("");
+                                *room.entry(why).or_insert(0) += 1;
+                            }
+                        }
+                    }
+                }
+                _ => {}
+            }
+            last_share = share;
+        });
+    }
+    for (sort, count) in &shares.0 {
+        assert!(*count >= 4, "{sort:?}: {count} of {:?}", shares.0);
+    }
+    for why in ["abandon", "completion", "reset", "raised"] {
+        assert!(room[why] >= 5, "{why}: {room:?}");
+    }
+}
+
+#[test]
+fn generated_scripts_spell_the_share() {
+    let (mut tails, mut printed) = (BTreeMap::new(), BTreeMap::new());
+    for seed in 1..=8 {
+        let text = generate::listener(seed, 3000);
+        for line in String::from_utf8_lossy(&text).lines().filter(|line| line.starts_with("settings ")) {
+            *tails.entry(tail(line, 7)).or_insert(0) += 1;
+        }
+        each_turn(&text, |turn| {
+            if turn.words[0] == "settings" {
+                let share = turn.words.get(8).map_or(64, |word| word.parse::<u32>().unwrap());
+                *printed.entry((share, turn.printed[0].to_string())).or_insert(0) += 1;
+            }
+        });
+    }
+    for tail in [" new 64", " both 64"] {
+        assert!(tails[tail] >= 40, "{tail}: {tails:?}");
+    }
+    for (share, number) in [
+        (0, "12"),
+        (1, "0"),
+        (2, "0"),
+        (8, "0"),
+        (63, "0"),
+        (64, "0"),
+        (65, "12"),
+        (66, "12"),
+        (264, "12"),
+        (65_544, "12"),
+        (u32::MAX, "12"),
+    ] {
+        let count = printed.get(&(share, number.to_string())).copied().unwrap_or(0);
+        assert!(count >= 2, "{share} {number}: {count}");
+    }
+    // Bad lines: too large a number, even if it is in range when cut short; no number; a share and
+    // no coding setting.
+    for wrong in ["4294967296", "4294967304", "18446744073709551624", ""] {
+        let spelt = |coding: &str| tails.get(&format!(" {coding} {wrong}")).copied().unwrap_or(0);
+        assert!(spelt("new") + spelt("both") >= 2, "{wrong}");
+    }
+    assert!(tails.get(" 8").copied().unwrap_or(0) >= 2, "{tails:?}");
+}
+
+#[test]
+fn a_crowd_elsewhere_makes_no_difference() {
+    // The work that is timed beside others: what it does is what one without the crowd does.
+    for live in [0, 7, 8, 9, 63, 64] {
+        let of = |work| timing::run(work, 5, live, 100).unwrap();
+        assert_eq!(of("shared"), of("early"), "{live}");
     }
 }

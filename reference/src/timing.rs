@@ -4,7 +4,7 @@
 use std::hint::black_box;
 
 use crate::aes::Schedule;
-use crate::listener::{cookie, Kind, Listener, Reply, Settings, LEAST_OUTPUT, SLOTS};
+use crate::listener::{cookie, Kind, Listener, Reply, Settings, Verdict, LEAST_OUTPUT, SLOTS, WHOLE_SHARE};
 use crate::wire::{self, Codings, Header, Reading, Refusal, ACK, SYN};
 
 const KEY: [u8; 16] = [0, 1, 2, 3, 4, 5, 6, 7, 8, 9, 10, 11, 12, 13, 14, 15];
@@ -13,9 +13,20 @@ const OWN: [u8; 4] = [192, 0, 2, 2];
 const OWN_PORT: u16 = 443;
 const PEER: [u8; 4] = [192, 0, 2, 1];
 const PEER_PORT: u16 = 40_000;
+/// Another address, which has many connections.
+const CROWD: [u8; 4] = [192, 0, 2, 9];
 const LIVE_PORT: u16 = 50_000;
 const IRS: u32 = 1000;
 const ISS: u32 = 7;
+const SETTINGS: Settings = Settings {
+    on: true,
+    limit: 64,
+    room: 1460,
+    hold: 0,
+    mss: 1460,
+    codings: Codings::New,
+    share: WHOLE_SHARE,
+};
 
 /// The digest of a work, or `None` for a name that is none.
 pub fn run(work: &str, count: u64, live: usize, payload: usize) -> Option<u64> {
@@ -31,6 +42,7 @@ pub fn run(work: &str, count: u64, live: usize, payload: usize) -> Option<u64> {
             bench.listener.key(0, &NEXT_KEY).expect("a right key");
             Some(bench.open_and_abandon(count, &early_opening(payload)))
         }
+        "shared" => Some(Bench::crowded(live).open_and_abandon(count, &early_opening(payload))),
         "request" => Some(Bench::new(live).open_and_abandon(count, &request_opening(PEER_PORT))),
         "repeat" => Some(repeat(count, live, payload)),
         "completion" => Some(completion(count, live, payload)),
@@ -100,9 +112,9 @@ fn options(count: u64) -> u64 {
     digest
 }
 
-/// A segment from the peer with a right checksum.
-fn from_peer(
-    port: u16,
+/// A segment with a right checksum from a port of an address.
+fn from(
+    (source, source_port): ([u8; 4], u16),
     sequence: u32,
     acknowledgement: u32,
     flags: u8,
@@ -112,20 +124,25 @@ fn from_peer(
     let mut segment = vec![0; wire::HEADER];
     segment.extend_from_slice(options);
     segment.extend_from_slice(payload);
-    let header = Header { source_port: port, destination_port: OWN_PORT, sequence, acknowledgement, flags };
-    wire::finish(&mut segment, &header, options.len(), &PEER, &OWN);
+    let header = Header { source_port, destination_port: OWN_PORT, sequence, acknowledgement, flags };
+    wire::finish(&mut segment, &header, options.len(), &source, &OWN);
     segment
 }
 
-fn early_opening(payload: usize) -> Vec<u8> {
+/// An opening with the right cookie of its address.
+fn right_opening(source: [u8; 4], port: u16, payload: usize) -> Vec<u8> {
     let mut options = vec![2, 4, 5, 0xb4, 34, 10];
-    options.extend_from_slice(&cookie(&KEY, &PEER));
+    options.extend_from_slice(&cookie(&KEY, &source));
     options.extend_from_slice(&[1, 1]);
-    from_peer(PEER_PORT, IRS, 0, SYN, &options, &pattern(payload))
+    from((source, port), IRS, 0, SYN, &options, &pattern(payload))
+}
+
+fn early_opening(payload: usize) -> Vec<u8> {
+    right_opening(PEER, PEER_PORT, payload)
 }
 
 fn request_opening(port: u16) -> Vec<u8> {
-    from_peer(port, IRS, 0, SYN, &[2, 4, 5, 0xb4, 34, 2, 1, 1], &[])
+    from((PEER, port), IRS, 0, SYN, &[2, 4, 5, 0xb4, 34, 2, 1, 1], &[])
 }
 
 /// A listener under way, with the output it is lent and the digest so far.
@@ -138,9 +155,7 @@ struct Bench {
 impl Bench {
     fn new(live: usize) -> Bench {
         let mut listener = Listener::start(&OWN, OWN_PORT, &KEY).expect("a right start");
-        let settings =
-            Settings { on: true, limit: 64, room: 1460, hold: 0, mss: 1460, codings: Codings::New };
-        listener.settings(0, settings).expect("right settings");
+        listener.settings(0, SETTINGS).expect("right settings");
         let mut bench = Bench { listener, out: [0; LEAST_OUTPUT], digest: 0 };
         for port in (LIVE_PORT..).take(live) {
             let reply = bench.segment(ISS, &request_opening(port));
@@ -149,8 +164,23 @@ impl Bench {
         bench
     }
 
+    /// One whose early connections are all another address's, which may have passed its share.
+    fn crowded(live: usize) -> Bench {
+        let mut bench = Bench::new(0);
+        for port in (LIVE_PORT..).take(live) {
+            let reply = bench.segment_from(&CROWD, ISS, &right_opening(CROWD, port, 0));
+            assert!(matches!(reply, Ok(Reply { kind: Kind::Opening(Verdict::Early), .. })));
+        }
+        bench.listener.settings(0, Settings { share: 8, ..SETTINGS }).expect("right settings");
+        bench
+    }
+
     fn segment(&mut self, ours: u32, segment: &[u8]) -> Result<Reply, Refusal> {
-        self.listener.segment(0, black_box(&PEER), ours, black_box(segment), &mut self.out)
+        self.segment_from(&PEER, ours, segment)
+    }
+
+    fn segment_from(&mut self, source: &[u8; 4], ours: u32, segment: &[u8]) -> Result<Reply, Refusal> {
+        self.listener.segment(0, black_box(source), ours, black_box(segment), &mut self.out)
     }
 
     fn add_segment(&mut self, ours: u32, segment: &[u8]) {
@@ -203,7 +233,7 @@ fn completion(count: u64, live: usize, payload: usize) -> u64 {
     let opening = early_opening(payload);
     // The whole payload is accepted up to the early room.
     let accepted = payload.min(1460) as u32;
-    let completion = from_peer(PEER_PORT, IRS + 1 + accepted, ISS + 1, ACK, &[], &[]);
+    let completion = from((PEER, PEER_PORT), IRS + 1 + accepted, ISS + 1, ACK, &[], &[]);
     let mut bench = Bench::new(live);
     for turn in 0..count {
         bench.add_segment(ISS, &opening);

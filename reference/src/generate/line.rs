@@ -1,6 +1,7 @@
 //! Lines as words, spelt in the many right ways and the many wrong ones.
 
 use super::Rng;
+use crate::listener::WHOLE_SHARE;
 use crate::script::LONGEST_LINE;
 use crate::wire::Codings;
 
@@ -10,8 +11,21 @@ enum Word {
     /// A value, and the largest its place takes.
     Number(u64, u64),
     Bytes(Vec<u8>),
-    /// Stands last, or is left out.
+    /// Stands behind the words that a line must have, or is left out.
     Codings(Codings),
+    /// Stands behind the coding setting, or is left out.
+    Share(u32),
+}
+
+impl Word {
+    /// Left out or not, if a line says the same without it.
+    fn is_left_out(&self, rng: &mut Rng) -> bool {
+        match self {
+            Word::Codings(Codings::New) => rng.percent(50),
+            Word::Share(WHOLE_SHARE) => rng.percent(80),
+            _ => false,
+        }
+    }
 }
 
 #[derive(Clone)]
@@ -60,6 +74,20 @@ impl Line {
         self
     }
 
+    pub fn share(mut self, share: u32) -> Line {
+        self.words.push(Word::Share(share));
+        self
+    }
+
+    /// The line with words left out from the right, or as it is.
+    fn shortened(&self, rng: &mut Rng) -> Line {
+        let mut line = self.clone();
+        while line.words.last().is_some_and(|word| word.is_left_out(rng)) {
+            line.words.pop();
+        }
+        line
+    }
+
     fn plain(&self) -> Vec<Vec<u8>> {
         self.words
             .iter()
@@ -70,6 +98,7 @@ impl Line {
                 Word::Bytes(bytes) => bytes.iter().flat_map(|b| format!("{b:02x}").into_bytes()).collect(),
                 Word::Codings(Codings::New) => b"new".to_vec(),
                 Word::Codings(Codings::Both) => b"both".to_vec(),
+                Word::Share(share) => share.to_string().into_bytes(),
             })
             .collect()
     }
@@ -79,7 +108,7 @@ impl Line {
     }
 
     fn numbers(&self) -> Vec<usize> {
-        self.places(|word| matches!(word, Word::Number(..)))
+        self.places(|word| matches!(word, Word::Number(..) | Word::Share(_)))
     }
 
     fn strings(&self) -> Vec<usize> {
@@ -88,19 +117,17 @@ impl Line {
 
     /// A right spelling.
     pub fn spelt(&self, rng: &mut Rng) -> Vec<u8> {
-        let mut words = self.plain();
-        if matches!(self.words.last(), Some(Word::Codings(Codings::New))) && rng.percent(50) {
-            words.pop();
-        }
+        let line = self.shortened(rng);
+        let mut words = line.plain();
         match rng.below(12) {
-            0 => self.recase(&mut words, |_| true),
+            0 => line.recase(&mut words, |_| true),
             1 | 2 => {
                 let pattern = rng.next();
-                self.recase(&mut words, |at| pattern >> (at % 64) & 1 == 1);
+                line.recase(&mut words, |at| pattern >> (at % 64) & 1 == 1);
             }
             _ => {}
         }
-        let numbers = self.numbers();
+        let numbers = line.numbers();
         if !numbers.is_empty() && rng.percent(6) {
             let at = rng.pick(&numbers);
             let zeros = rng.pick(&[1, 2, 10, 20, 30]);
@@ -123,22 +150,46 @@ impl Line {
         }
     }
 
-    /// The line with something else in the place of the coding setting that stands last.
+    /// The line with something else from the coding setting on.
     pub fn miscoded(&self, rng: &mut Rng) -> Vec<u8> {
         let wrong: [&[u8]; 4] = [b"old", b"NEW", b"", b"both both"];
         let rarer: [&[u8]; 8] = [b"Both", b" ", b"new ", b" both", b"new both", b"newer", b"-", b"254"];
         let wrong = if rng.percent(60) { rng.pick(&wrong) } else { rng.pick(&rarer) };
         let mut words = self.plain();
-        words.pop();
+        words.truncate(self.coding_place());
         words.push(wrong.to_vec());
         words.join(&b' ')
     }
 
+    /// The line with something that is no share behind the coding setting, or with a share and no
+    /// coding setting.
+    pub fn misshared(&self, rng: &mut Rng) -> Vec<u8> {
+        // Some are right again if they are cut to 32 or 64 bits.
+        let large: [&[u8]; 4] = [b"4294967296", b"4294967296", b"4294967304", b"18446744073709551624"];
+        let rarer: [&[u8]; 10] = [b"", b"-", b"+8", b"-1", b"0x8", b"8.0", b"8 8", b"8 ", b" 8", b"08 both"];
+        let mut words = self.plain();
+        words.truncate(self.coding_place());
+        if rng.percent(20) {
+            words.push(rng.pick(&[&b"1"[..], b"8", b"8", b"64", b"8 new", b"64 both"]).to_vec());
+        } else {
+            words.push(rng.pick(&[&b"new"[..], b"both"]).to_vec());
+            words.push(if rng.percent(60) { rng.pick(&large) } else { rng.pick(&rarer) }.to_vec());
+        }
+        words.join(&b' ')
+    }
+
+    /// Where the coding setting stands, or would.
+    fn coding_place(&self) -> usize {
+        self.words.iter().position(|word| matches!(word, Word::Codings(_))).unwrap_or(self.words.len())
+    }
+
     /// A spelling that is wrong in one way, if the line has what that way needs; right after
-    /// all where it is the coding setting that was dropped.
+    /// all where it is the coding setting or the share that was dropped.
     pub fn spoilt(&self, rng: &mut Rng) -> Vec<u8> {
-        if matches!(self.words.last(), Some(Word::Codings(_))) && rng.percent(25) {
-            return self.miscoded(rng);
+        match self.words.last() {
+            Some(Word::Codings(_) | Word::Share(_)) if rng.percent(25) => return self.miscoded(rng),
+            Some(Word::Share(_)) if rng.percent(25) => return self.misshared(rng),
+            _ => {}
         }
         let mut words = self.plain();
         let numbers = self.numbers();
@@ -179,11 +230,10 @@ impl Line {
             }
             16 | 17 if !numbers.is_empty() => {
                 let at = rng.pick(&numbers);
-                if let Word::Number(_, most) = self.words[at] {
-                    words[at] = (u128::from(most) + 1).to_string().into_bytes();
-                    if rng.percent(25) {
-                        pad(&mut words[at], 25);
-                    }
+                let most = if let Word::Number(_, most) = self.words[at] { most } else { u32::MAX.into() };
+                words[at] = (u128::from(most) + 1).to_string().into_bytes();
+                if rng.percent(25) {
+                    pad(&mut words[at], 25);
                 }
             }
             18 if !numbers.is_empty() => {

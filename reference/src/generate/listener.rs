@@ -7,15 +7,19 @@ use super::segment::{
 };
 use super::Script;
 use crate::aes::Schedule;
-use crate::listener::{cookie, Settings, Slot, Status};
+use crate::listener::{cookie, Settings, Slot, Status, WHOLE_SHARE};
 use crate::script::ListenerSession;
 use crate::wire::{self, Codings, ACK, FIN, LAST_TIME, RST, SYN};
 
 pub fn generate(seed: u64, calls: usize) -> Vec<u8> {
     let mut maker = Maker::new(seed);
-    let mut turn = maker.script.rng.index(THEMES.len());
+    let mut themes: Vec<&Theme> = THEMES.iter().collect();
+    themes.rotate_left(maker.script.rng.index(THEMES.len()));
+    // the second, so that no long script is without it
+    themes.insert(1, &MONDAY);
+    let mut turn = 0;
     while maker.script.calls < calls {
-        maker.run(&THEMES[turn % THEMES.len()], calls);
+        maker.run(themes[turn % themes.len()], calls);
         turn += 1;
     }
     maker.script.finish()
@@ -28,59 +32,85 @@ struct Theme {
     ports: u64,
     limits: &'static [u32],
     holds: &'static [u32],
+    shares: &'static [u32],
     /// Percent of calls that are damaged.
     damage: u64,
-    /// Weight of right cookies among openings; all else weighs 100.
+    /// Weight of right cookies among openings; all else weighs 106.
     right: u64,
     /// Weights of the actions, in the order of `Maker::act_once`.
-    actions: [u64; 15],
+    actions: [u64; 16],
     /// The usual longest step in time, and a rare longer one.
     step: u64,
     leap: u64,
     near_last_time: bool,
     /// Begins with as many early connections as there are slots, or almost.
     brim: bool,
+    /// Begins with one address that takes far more than its share.
+    monday: bool,
 }
 
 #[rustfmt::skip]
-//                     open again compl reset aband resend close settings key noise kinds twins hold turn tell
+//                     open again compl reset aband resend close settings key noise kinds twins hold turn tell share
 const THEMES: [Theme; 7] = [
     // a bit of everything
     Theme {
-        calls: 300, addresses: 5, ports: 12, limits: &[3, 8, 16, 64], holds: &[0, 100, 1000, 65_535], damage: 18, right: 100,
-        actions: [30, 12, 16, 10, 5, 6, 9, 3, 2, 3, 3, 2, 5, 1, 2], step: 20, leap: 3000, near_last_time: false, brim: false,
+        calls: 300, addresses: 5, ports: 12, limits: &[3, 8, 16, 64], holds: &[0, 100, 1000, 65_535], shares: FEW, damage: 18, right: 100,
+        actions: [30, 12, 16, 10, 5, 6, 9, 3, 2, 3, 3, 2, 5, 1, 2, 1], step: 20, leap: 3000, near_last_time: false, brim: false, monday: false,
     },
     // a full table
     Theme {
-        calls: 330, addresses: 6, ports: 60, limits: &[40, 63, 63, 64, 64], holds: &[50, 65_535], damage: 10, right: 650,
-        actions: [44, 12, 12, 8, 4, 8, 9, 1, 1, 1, 1, 2, 3, 1, 2], step: 3, leap: 60, near_last_time: false, brim: true,
+        calls: 330, addresses: 6, ports: 60, limits: &[40, 63, 63, 64, 64], holds: &[50, 65_535], shares: &[64, 64, 64, 64, 63], damage: 10, right: 650,
+        actions: [44, 12, 12, 8, 4, 8, 9, 1, 1, 1, 1, 2, 3, 1, 2, 1], step: 3, leap: 60, near_last_time: false, brim: true, monday: false,
     },
     // resets and their holds
     Theme {
-        calls: 300, addresses: 3, ports: 8, limits: &[2, 3, 5, 10], holds: &[0, 1, 2, 10, 40], damage: 12, right: 195,
-        actions: [36, 9, 6, 24, 5, 4, 4, 5, 1, 1, 1, 1, 12, 1, 2], step: 6, leap: 50, near_last_time: false, brim: false,
+        calls: 300, addresses: 3, ports: 8, limits: &[2, 3, 5, 10], holds: &[0, 1, 2, 10, 40], shares: FEW, damage: 12, right: 195,
+        actions: [36, 9, 6, 24, 5, 4, 4, 5, 1, 1, 1, 1, 12, 1, 2, 1], step: 6, leap: 50, near_last_time: false, brim: false, monday: false,
     },
     // keys that turn
     Theme {
-        calls: 260, addresses: 2, ports: 30, limits: &[20, 64], holds: &[0, 5], damage: 12, right: 70,
-        actions: [42, 4, 12, 8, 8, 3, 10, 2, 14, 1, 1, 1, 3, 3, 2], step: 9, leap: 90, near_last_time: false, brim: false,
+        calls: 260, addresses: 2, ports: 30, limits: &[20, 64], holds: &[0, 5], shares: FEW, damage: 12, right: 70,
+        actions: [42, 4, 12, 8, 8, 3, 10, 2, 14, 1, 1, 1, 3, 3, 2, 1], step: 9, leap: 90, near_last_time: false, brim: false, monday: false,
     },
     // pending about the limit
     Theme {
-        calls: 260, addresses: 3, ports: 10, limits: &[0, 1, 2, 3], holds: &[0, 30, 300], damage: 12, right: 195,
-        actions: [36, 8, 10, 12, 8, 4, 8, 9, 2, 1, 1, 2, 5, 1, 2], step: 10, leap: 300, near_last_time: false, brim: false,
+        calls: 260, addresses: 3, ports: 10, limits: &[0, 1, 2, 3], holds: &[0, 30, 300], shares: FEW, damage: 12, right: 195,
+        actions: [36, 8, 10, 12, 8, 4, 8, 9, 2, 1, 1, 2, 5, 1, 2, 1], step: 10, leap: 300, near_last_time: false, brim: false, monday: false,
     },
     // the end of time
     Theme {
-        calls: 170, addresses: 3, ports: 9, limits: &[4, 64], holds: &[10, 1000, 65_535], damage: 20, right: 160,
-        actions: [34, 8, 10, 18, 4, 4, 6, 3, 2, 1, 1, 2, 5, 1, 2], step: 500, leap: 20_000, near_last_time: true, brim: false,
+        calls: 170, addresses: 3, ports: 9, limits: &[4, 64], holds: &[10, 1000, 65_535], shares: FEW, damage: 20, right: 160,
+        actions: [34, 8, 10, 18, 4, 4, 6, 3, 2, 1, 1, 2, 5, 1, 2, 1], step: 500, leap: 20_000, near_last_time: true, brim: false, monday: false,
     },
     // hostile
     Theme {
-        calls: 260, addresses: 4, ports: 6, limits: &[2, 8, 64], holds: &[0, 7, 700], damage: 36, right: 100,
-        actions: [24, 10, 12, 10, 5, 5, 6, 4, 3, 12, 12, 2, 4, 1, 2], step: 8, leap: 500, near_last_time: false, brim: false,
+        calls: 260, addresses: 4, ports: 6, limits: &[2, 8, 64], holds: &[0, 7, 700], shares: FEW, damage: 36, right: 100,
+        actions: [24, 10, 12, 10, 5, 5, 6, 4, 3, 12, 12, 2, 4, 1, 2, 1], step: 8, leap: 500, near_last_time: false, brim: false, monday: false,
     },
 ];
+
+/// One address and its share.
+#[rustfmt::skip]
+const MONDAY: Theme = Theme {
+    calls: 130, addresses: 2, ports: 50, limits: &[64, 64, 20], holds: &[0, 5, 100], shares: &[1, 2, 3, 8, 8, 63, 64], damage: 8, right: 120,
+    actions: [20, 6, 12, 8, 14, 3, 10, 3, 2, 0, 1, 3, 3, 1, 1, 5], step: 6, leap: 60, near_last_time: false, brim: false, monday: true,
+};
+
+/// Shares that seldom matter, so that all else is met as often as without them.
+const FEW: &[u32] = &[64, 64, 64, 64, 64, 64, 64, 64, 64, 63, 5, 2];
+
+/// Numbers just out of a share's range, and some that are in it if they are cut short.
+const NO_SHARES: [u32; 9] = [0, 0, 65, 65, 66, 256 + 8, 65_536 + 8, u32::MAX, u32::MAX];
+
+/// What an opening has for a cookie.
+#[derive(Clone, Copy)]
+enum Offer {
+    Right,
+    /// Right under the key before the present one, if there was one.
+    Outdated,
+    Wrong,
+    Request,
+}
 
 struct Maker {
     script: Script<ListenerSession>,
@@ -122,7 +152,9 @@ impl Maker {
             }
         }
         self.start();
-        if theme.brim || !self.script.rng.percent(10) {
+        if theme.monday {
+            self.monday(theme);
+        } else if theme.brim || !self.script.rng.percent(10) {
             if theme.near_last_time {
                 let before = self.script.rng.pick(&[0, 1, 100, 60_000, 66_000]);
                 self.settings(theme, Some(LAST_TIME - before));
@@ -160,6 +192,31 @@ impl Maker {
                 Line::new("segment").u64(time).bytes(&source).u32(port.into()).out(36).bytes(&plan.encode());
             self.script.call(&line);
         }
+    }
+
+    /// One address asks for a cookie and comes back with it on forty ports, under a share of
+    /// eight; then another address comes.
+    fn monday(&mut self, theme: &Theme) {
+        let rng = &mut self.script.rng;
+        let settings = Settings {
+            on: true,
+            limit: 64,
+            room: 1460,
+            hold: rng.pick(theme.holds),
+            mss: 1460,
+            codings: rng.pick(&[Codings::New, Codings::Both]),
+            share: 8,
+        };
+        self.set(0, &settings);
+        let (source, other) = (self.addresses[0].clone(), self.addresses[1].clone());
+        let request = self.newcomer(theme, &source, Offer::Request);
+        self.undamaged(0, &request);
+        for _ in 0..40 {
+            let plan = self.newcomer(theme, &source, Offer::Right);
+            self.undamaged(0, &plan);
+        }
+        let plan = self.newcomer(theme, &other, Offer::Right);
+        self.undamaged(0, &plan);
     }
 
     fn set_scene(&mut self, theme: &Theme) {
@@ -227,7 +284,8 @@ impl Maker {
             11 => self.twins(theme),
             12 => self.hold(theme),
             13 => self.turn_codings(theme),
-            _ => self.tell(theme),
+            14 => self.tell(theme),
+            _ => self.share(theme),
         }
     }
 
@@ -333,7 +391,7 @@ impl Maker {
         let back = |steps: usize| self.keys.iter().rev().nth(steps).copied().unwrap_or(present);
         let mut offered = cookie(&present, source).to_vec();
         let rng = &mut self.script.rng;
-        match rng.weighted(&[theme.right, 22, 8, 12, 5, 4, 3, 5, 5, 5, 14, 17]) {
+        match rng.weighted(&[theme.right, 22, 8, 12, 5, 4, 3, 5, 5, 5, 20, 17]) {
             0 => {}
             1 => offered = cookie(&back(1), source).to_vec(),
             2 => offered = cookie(&back(2), source).to_vec(),
@@ -606,6 +664,249 @@ impl Maker {
         telling_area(&mut self.script.rng, &offered, codings)
     }
 
+    /// One address up to its share and past it. Then its number changes, or the share does, and it
+    /// comes again.
+    fn share(&mut self, theme: &Theme) {
+        let Some(front) = self.script.session.listener.front() else { return self.open(theme) };
+        let before = front.current_settings();
+        let source = self.address();
+        let time = self.time(theme);
+        let (own, all) = (self.pending_from(&source, time), self.pending(time));
+        let rng = &mut self.script.rng;
+        let more = rng.within(1, 3) as u32;
+        let limit = match rng.below(8) {
+            // reached before the share, or with it
+            0 => all + more - 1,
+            1 => all + more,
+            _ => 64,
+        };
+        let hold = rng.pick(&[1, 2, 7, 40]);
+        let codings = rng.pick(&[before.codings, Codings::Both, Codings::Both]);
+        let share = (own + more).min(WHOLE_SHARE);
+        let settings = Settings { on: true, limit: limit.min(64), hold, codings, share, ..before };
+        let there = self.slots(|slot| slot.expected().is_some());
+        self.set(time, &settings);
+        for left in (0..more).rev() {
+            if left == 0 || self.script.rng.percent(30) {
+                // while there is a place left, there is a fresh cookie
+                let offer = self.script.rng.pick(&[Offer::Request, Offer::Wrong, Offer::Outdated]);
+                self.knock(theme, time, &source, offer);
+            }
+            self.knock(theme, time, &source, Offer::Right);
+        }
+        self.at_the_share(theme, &source);
+        for _ in 0..self.script.rng.pick(&[1, 1, 2]) {
+            match self.script.rng.below(8) {
+                0 | 1 => self.make_room(theme, &source, Offer::Right),
+                2..=4 => self.make_room_later(theme, &source),
+                5 | 6 => self.turn_key(theme, &source),
+                _ => self.lower_and_raise(theme, &source),
+            }
+            self.at_the_share(theme, &source);
+        }
+        self.clear(&there);
+        if self.script.rng.percent(80) {
+            let clock = self.clock();
+            self.set(clock, &before);
+        }
+    }
+
+    /// What an address can try when its share is taken, and what others still can.
+    fn at_the_share(&mut self, theme: &Theme, source: &[u8]) {
+        let clock = self.clock();
+        for _ in 0..self.script.rng.within(1, 3) {
+            match self.script.rng.below(11) {
+                0..=2 => self.knock(theme, clock, source, Offer::Right),
+                3 => self.knock(theme, clock, source, Offer::Request),
+                4 => self.knock(theme, clock, source, Offer::Wrong),
+                5 => self.knock(theme, clock, source, Offer::Outdated),
+                6..=8 => {
+                    let other = self.neighbour(source);
+                    let offer =
+                        self.script.rng.pick(&[Offer::Right, Offer::Right, Offer::Right, Offer::Request]);
+                    self.knock(theme, clock, &other, offer);
+                }
+                9 => {
+                    // refused, so the share stays
+                    let Some(front) = self.script.session.listener.front() else { continue };
+                    let share = self.script.rng.pick(&NO_SHARES);
+                    self.set(clock, &Settings { share, ..front.current_settings() });
+                    self.knock(theme, clock, source, Offer::Right);
+                }
+                _ => {
+                    let family = self.family;
+                    let mine = |slot: &Slot| slot.expected().is_some() && slot.address(family) == source;
+                    let Some(slot) = self.some_slot(mine) else { continue };
+                    let mut plan = self.plan(source, slot.port());
+                    plan.options = self.options(theme, source);
+                    plan.sequence = slot.irs;
+                    self.undamaged(clock, &plan);
+                }
+            }
+        }
+    }
+
+    /// One that is early, if there is one, is completed or abandoned; then two more come.
+    fn make_room(&mut self, theme: &Theme, source: &[u8], offer: Offer) {
+        let clock = self.clock();
+        let Some(slot) = self.early_from(source) else { return };
+        if self.script.rng.percent(35) {
+            let line = Line::new("abandon").u64(clock).bytes(source).u16(slot.port());
+            self.script.call(&line);
+        } else {
+            let mut plan = self.plan(source, slot.port());
+            plan.flags = ACK;
+            plan.sequence = slot.expected().unwrap_or(0);
+            plan.acknowledgement = slot.iss.wrapping_add(1);
+            self.undamaged(clock, &plan);
+            if self.script.rng.percent(50) {
+                let line = Line::new("close").u64(clock).bytes(source).u16(slot.port());
+                self.script.call(&line);
+            }
+        }
+        self.knock(theme, clock, source, offer);
+        self.knock(theme, clock, source, offer);
+    }
+
+    /// One that is early is reset, which makes no room before its hold has ended.
+    fn make_room_later(&mut self, theme: &Theme, source: &[u8]) {
+        let clock = self.clock();
+        let Some(slot) = self.early_from(source) else { return };
+        let mut plan = self.plan(source, slot.port());
+        plan.flags = RST;
+        plan.sequence = slot.expected().unwrap_or(0);
+        self.undamaged(clock, &plan);
+        let Some(Status::Held { until }) = self.slot_of(&plan).map(|slot| slot.status) else { return };
+        for time in self.script.rng.pick(&[[until - 1, until], [until - 1, until + 1], [clock, until]]) {
+            let time = time.clamp(self.clock(), LAST_TIME);
+            self.knock(theme, time, source, Offer::Right);
+        }
+    }
+
+    /// A new key, so that there are cookies which are right and yet replaced.
+    fn turn_key(&mut self, theme: &Theme, source: &[u8]) {
+        let clock = self.clock();
+        let key = self.script.rng.bytes(16);
+        let done = self.script.call(&Line::new("key").u64(clock).bytes(&key));
+        if let (true, Ok(key)) = (done, key.try_into()) {
+            self.keys.push(key);
+        }
+        self.knock(theme, clock, source, Offer::Outdated);
+        self.make_room(theme, source, Offer::Outdated);
+    }
+
+    /// A share below the address's number, under which what is there stays and counts; then one
+    /// above it.
+    fn lower_and_raise(&mut self, theme: &Theme, source: &[u8]) {
+        let Some(front) = self.script.session.listener.front() else { return };
+        let (clock, settings) = (front.clock(), front.current_settings());
+        let own = self.pending_from(source, clock);
+        let lower = own.saturating_sub(self.script.rng.below(3) as u32).max(1);
+        self.set(clock, &Settings { share: lower, ..settings });
+        self.knock(theme, clock, source, Offer::Right);
+        self.make_room(theme, source, Offer::Right);
+        let own = self.pending_from(source, clock);
+        self.set(clock, &Settings { share: (own + 1).min(WHOLE_SHARE), ..settings });
+        self.knock(theme, clock, source, Offer::Right);
+    }
+
+    /// Abandons most of those that weren't there, so that they don't fill the table and the limit.
+    fn clear(&mut self, there: &[Slot]) {
+        let clock = self.clock();
+        for slot in self.slots(|slot| slot.expected().is_some()) {
+            if there.iter().any(|old| old.name == slot.name) || self.script.rng.percent(10) {
+                continue;
+            }
+            let source = slot.address(self.family);
+            self.script.call(&Line::new("abandon").u64(clock).bytes(&source).u16(slot.port()));
+        }
+    }
+
+    fn pending(&self, time: u64) -> u32 {
+        self.slots(|slot| slot.is_pending(time)).len() as u32
+    }
+
+    fn pending_from(&self, source: &[u8], time: u64) -> u32 {
+        self.slots(|slot| slot.is_pending(time) && slot.address(self.family) == source).len() as u32
+    }
+
+    fn early_from(&mut self, source: &[u8]) -> Option<Slot> {
+        let family = self.family;
+        self.some_slot(|slot| matches!(slot.status, Status::Early { .. }) && slot.address(family) == source)
+    }
+
+    /// Another address, often only one bit away.
+    fn neighbour(&mut self, source: &[u8]) -> Vec<u8> {
+        let other = self.address();
+        if other != source && self.script.rng.percent(50) {
+            return other;
+        }
+        let mut near = source.to_vec();
+        let bit = self.script.rng.index(8 * self.family);
+        near[bit / 8] ^= 1 << (bit % 8);
+        near
+    }
+
+    /// A new opening, now and then behind a copy that is refused and so changes nothing.
+    fn knock(&mut self, theme: &Theme, time: u64, source: &[u8], offer: Offer) {
+        let plan = self.newcomer(theme, source, offer);
+        if self.script.rng.percent(theme.damage) {
+            self.refused(time, plan.clone());
+        }
+        self.undamaged(time, &plan);
+    }
+
+    /// An opening from a port of the address that isn't in the table.
+    fn newcomer(&mut self, theme: &Theme, source: &[u8], offer: Offer) -> Plan {
+        let family = self.family;
+        let taken = self.slots(|slot| slot.status != Status::Free && slot.address(family) == source);
+        let mut port = self.some_port(theme);
+        while taken.iter().any(|slot| slot.port() == port) {
+            port = port.wrapping_add(1);
+        }
+        let mut plan = self.plan(source, port);
+        let codings = self.codings();
+        let present = *self.keys.last().unwrap_or(&[0; 16]);
+        let outdated = self.keys.iter().rev().nth(1).unwrap_or(&present);
+        let rng = &mut self.script.rng;
+        let offered = match offer {
+            Offer::Right => cookie(&present, source).to_vec(),
+            Offer::Outdated => cookie(outdated, source).to_vec(),
+            Offer::Wrong => rng.bytes(8),
+            Offer::Request => Vec::new(),
+        };
+        let fast_open = counted(rng, codings).option(&offered);
+        plan.options = area_with(rng, &[wire::mss_option(1460).to_vec(), fast_open]);
+        plan.sequence = rng.sequence();
+        let length = rng.within(1, 40) as usize;
+        plan.payload = rng.bytes(length);
+        plan
+    }
+
+    fn undamaged(&mut self, time: u64, plan: &Plan) {
+        let (ours, out) = (self.script.rng.sequence(), self.output());
+        let line =
+            Line::new("segment").u64(time).bytes(&plan.source).u32(ours).out(out).bytes(&plan.encode());
+        self.script.call(&line);
+    }
+
+    /// The opening with a damage for which it is refused, whatever is in the table.
+    fn refused(&mut self, mut time: u64, mut plan: Plan) {
+        let (ours, mut out) = (self.script.rng.sequence(), self.output());
+        let mut source = plan.source.clone();
+        match self.script.rng.below(9) {
+            0 => time = self.bad_time(),
+            1 => source.resize(20 - self.family, 0),
+            2 => out = self.small_output(),
+            3 => plan.length = Some(self.script.rng.pick(&[19, 1521])),
+            4 | 5 => plan.sum = Sum::Off(1 << self.script.rng.below(16)),
+            6 | 7 => plan.destination_port ^= self.script.rng.pick(&[1, 256, 0x8000]),
+            _ => plan.flags |= self.script.rng.pick(&[ACK, RST, FIN]),
+        }
+        let line = Line::new("segment").u64(time).bytes(&source).u32(ours).out(out).bytes(&plan.encode());
+        self.script.call(&line);
+    }
+
     /// The slot of a plan's name.
     fn slot_of(&mut self, plan: &Plan) -> Option<Slot> {
         let family = self.family;
@@ -694,6 +995,7 @@ impl Maker {
             hold: rng.pick(theme.holds),
             mss: rng.pick(&[1460, 536, 537, 1459, 1220]),
             codings: rng.pick(&[Codings::New, Codings::Both]),
+            share: rng.pick(theme.shares),
         };
         if time.is_none() {
             if rng.percent(20) {
@@ -701,14 +1003,17 @@ impl Maker {
                 settings.hold = rng.pick(&[0, 1, 65_534, 65_535]);
                 settings.room = rng.below(1461) as u32;
                 settings.mss = rng.within(536, 1460) as u32;
+                let any = rng.within(1, 64) as u32;
+                settings.share = rng.pick(&[any, 1, 63, 64]);
             }
-            if rng.percent(40) {
+            if rng.percent(50) {
                 for _ in 0..rng.pick(&[1, 1, 1, 2]) {
-                    match rng.below(4) {
+                    match rng.below(5) {
                         0 => settings.limit = rng.pick(&[65, 65, 65, 66, 256 + 8, 65_536, u32::MAX]),
                         1 => settings.room = rng.pick(&[1461, 1461, 1461, 65_536 + 100, u32::MAX]),
                         2 => settings.hold = rng.pick(&[65_536, 65_536, 65_536, 131_072, u32::MAX]),
-                        _ => settings.mss = rng.pick(&[0, 535, 535, 1461, 1461, 65_536 + 1000, u32::MAX]),
+                        3 => settings.mss = rng.pick(&[0, 535, 535, 1461, 1461, 65_536 + 1000, u32::MAX]),
+                        _ => settings.share = rng.pick(&NO_SHARES),
                     }
                 }
             }
@@ -719,7 +1024,8 @@ impl Maker {
         self.set(at, &settings);
     }
 
-    /// A settings call with these, now and then with a wrong word for the coding before it.
+    /// A settings call with these, now and then with a wrong word for the coding or the share
+    /// before it.
     fn set(&mut self, time: u64, settings: &Settings) {
         let line = Line::new("settings")
             .u64(time)
@@ -728,9 +1034,14 @@ impl Maker {
             .u32(settings.room)
             .u32(settings.hold)
             .u32(settings.mss)
-            .codings(settings.codings);
+            .codings(settings.codings)
+            .share(settings.share);
         if self.script.rng.percent(6) {
             let wrong = line.miscoded(&mut self.script.rng);
+            self.script.raw(&wrong);
+        }
+        if self.script.rng.percent(9) {
+            let wrong = line.misshared(&mut self.script.rng);
             self.script.raw(&wrong);
         }
         self.script.call(&line);
