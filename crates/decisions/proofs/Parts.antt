@@ -26,7 +26,7 @@ use Rattle.protocol.specs.declared.state.Keys.{Keys}
 use Rattle.protocol.specs.declared.state.View.{View}
 use Rattle.protocol.proofs.Cookie.{carried-syn, never-right, no-cookie}
 use Rattle.protocol.proofs.Openings.{early-is, fresh-is}
-use Rattle.decisions.specs.Parts.{hasKind, isOpening, openingChecks, openingCheck, enabledWith, slotsToCount, optionIfEnabled, isFreshFor, laterChecks, laterEvent, laterSlot}
+use Rattle.decisions.specs.Parts.{hasKind, isOpening, openingChecks, openingCheck, limitAllows, slotsToCount, optionIf, isFreshFor, laterChecks, laterEvent, laterSlot}
 use Rattle.decisions.specs.declared.checks.OpeningCheck.the-variants as openings
 
 -- Kinds
@@ -106,17 +106,17 @@ module _ (v : View) where
   opening-checks h = refl
 
   -- The option is allowed by the settings and pending, and then by the share of the address: `own` of its own are counted, in no slot or in all, where `from` are there.
-  module _ {pending from : ℕ} (below : v .below ≡ ltb pending (v .settings .limit)) (within : v .within ≡ ltb from (v .settings .share)) (some : from ≤ pending) where
-    pub by-share : (own : ℕ) (read allowed : FastOpenOption) → allowed ≡ optionIfEnabled (enabledWith (v .settings) pending) read
+  module _ {pending from : ℕ} (below : v .below ≡ ltb pending (v .settings .limit)) (spare : v .spare ≡ ltb from (v .settings .share)) (some : from ≤ pending) where
+    pub by-share : (own : ℕ) (read allowed : FastOpenOption) → allowed ≡ optionIf (limitAllows (v .settings) pending) read
         → (slotsToCount (v .settings .share) pending allowed ≡ 0 → own ≡ 0) → (slotsToCount (v .settings .share) pending allowed ≡ 64 → own ≡ from)
-        → optionIfEnabled (ltb own (v .settings .share)) allowed ≡ optionIfEnabled (cookiesEnabled v) read
+        → optionIf (ltb own (v .settings .share)) allowed ≡ optionIf (cookiesEnabled v) read
     by-share own read allowed ea none all =
         settled (ltb pending (v .settings .share)) refl (isCounted allowed) refl
-        ∙ (ap (optionIfEnabled (ltb from (v .settings .share))) ea
-        ∙ rw (below, within) (one-after-other (v .settings .on) (ltb pending (v .settings .limit)) (ltb from (v .settings .share)) read))
+        ∙ (ap (optionIf (ltb from (v .settings .share))) ea
+        ∙ rw (below, spare) (one-after-other (v .settings .on) (ltb pending (v .settings .limit)) (ltb from (v .settings .share)) read))
       where
         settled : (few : Bool) → ltb pending (v .settings .share) ≡ few → (counted : Bool) → isCounted allowed ≡ counted
-            → optionIfEnabled (ltb own (v .settings .share)) allowed ≡ optionIfEnabled (ltb from (v .settings .share)) allowed
+            → optionIf (ltb own (v .settings .share)) allowed ≡ optionIf (ltb from (v .settings .share)) allowed
         settled true e counted q =
             let h = ltb-true pending (v .settings .share) e in
             rw (lt-ltb own (v .settings .share) (omega (arith, none (rw e))), lt-ltb from (v .settings .share) (omega (arith, some)))
@@ -133,7 +133,7 @@ module _ (v : View) where
   new-fresh b seg true n = refl
   new-fresh b seg false n = refl
 
-  module _ (b seg : List ℕ) (syn : kindOf (fieldsOf seg .flags) ≡ Syn) {fast : FastOpenOption} (ef : fast ≡ optionIfEnabled (cookiesEnabled v) (readOptions (v .settings .codings) (optionArea seg) .fast)) where
+  module _ (b seg : List ℕ) (syn : kindOf (fieldsOf seg .flags) ≡ Syn) {fast : FastOpenOption} (ef : fast ≡ optionIf (cookiesEnabled v) (readOptions (v .settings .codings) (optionArea seg) .fast)) where
     pub opens-plain : isCounted fast ≡ false → (isEarly v b seg ≡ false) × (isFresh v b seg ≡ false)
     opens-plain e = rw (early-is v b seg, fresh-is v b seg, carried-syn (v .settings .codings) seg syn) (plain (v .keys) b (optionArea seg) (cookiesEnabled v) (readOptions (v .settings .codings) (optionArea seg) .fast) (rw ef at e))
 

@@ -54,17 +54,18 @@ openingCheck (Refused r) free = openings.Refused r
 openingCheck Clear true = openings.New
 openingCheck Clear false = openings.Repeat
 
--- cookies are taken and given, with so many pending, as far as the share of the address allows
-abbrev pub enabledWith : StoredSettings → ℕ → Bool
-enabledWith g pending = g .on && ltb pending (g .limit)
+-- Fast Open is on, and with so many pending it is below the limit; the share is asked for apart
+abbrev pub limitAllows : StoredSettings → ℕ → Bool
+limitAllows g pending = g .on && ltb pending (g .limit)
 
--- how many slots are counted for the number of the opening's own address: all, or none where it is below the share in any case, or no option counts
+-- how many slots are looked at to count the pending of an opening's source address: none where that number, at most pending, is below the share anyway, or
+-- where no option counts; else all
 abbrev pub slotsToCount : ℕ → ℕ → FastOpenOption → ℕ
 slotsToCount share pending fast = cond (ltb pending share) 0 (cond (isCounted fast) slotCount 0)
 
--- the option by which a new opening is answered, from the one that was read: none where cookies are not enabled
-abbrev pub optionIfEnabled : Bool → FastOpenOption → FastOpenOption
-optionIfEnabled enabled fast = cond enabled fast Absent
+-- an option as it was read, or none where it is not allowed
+abbrev pub optionIf : Bool → FastOpenOption → FastOpenOption
+optionIf enabled fast = cond enabled fast Absent
 
 -- a fresh cookie goes with the SYN-ACK to an option
 abbrev pub isFreshFor : Keys → List ℕ → Carried → Bool

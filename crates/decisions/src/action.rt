@@ -20,7 +20,7 @@ ghost use lib.ListN.{length};
 ghost use Rattle.protocol.specs.Cookie.{cookieUnder, found, right};
 ghost use Rattle.protocol.specs.Table.{slotCount, newSlot};
 ghost use Rattle.protocol.specs.Step.{newEvent, newStatus};
-ghost use Rattle.decisions.specs.Parts.{isOpening, enabledWith, slotsToCount, optionIfEnabled, isFreshFor, laterEvent, laterSlot};
+ghost use Rattle.decisions.specs.Parts.{isOpening, limitAllows, slotsToCount, optionIf, isFreshFor, laterEvent, laterSlot};
 
 // Whether a segment asks for a connection.
 pub fn is_opening(kind: Kind) -> bool
@@ -53,16 +53,16 @@ fn accept(payload: &[u8], early_room: u32) -> u32
     early_room
 }
 
-// Cookies are taken and given while Fast Open is on and pending is below the limit; the address's share is asked for after that.
-pub fn cookies_enabled(g: StoredSettings, pending: u32) -> bool
-    ensures { λ r. ⌜ r ≡ enabledWith g pending ⌝ }
+// Whether Fast Open is on and pending is below the limit. The share of the address is asked for after that.
+pub fn limit_allows(g: StoredSettings, pending: u32) -> bool
+    ensures { λ r. ⌜ r ≡ limitAllows g pending ⌝ }
 {
     let below = pending < g.limit;
     if g.on { below } else { false }
 }
 
-// How many slots to count for the number of the opening's own address: none where it is below the share without a count, since it is at most pending, or
-// where nothing depends on it, since no option counts.
+// How many slots are looked at to count the pending of an opening's source address: none where that number, at most pending, is below the share anyway, or where
+// no option counts; else all.
 pub fn slots_to_count(share: u32, pending: u32, fast: FastOpenOption) -> usize
     ensures { λ r. ⌜ (r ≡ slotsToCount share pending fast) × (r ≤ slotCount) ⌝ }
 {
@@ -75,9 +75,9 @@ pub fn slots_to_count(share: u32, pending: u32, fast: FastOpenOption) -> usize
     0
 }
 
-// The Fast Open option by which a new opening is answered: none where cookies are not enabled.
-pub fn option_if_enabled(enabled: bool, fast: FastOpenOption) -> FastOpenOption
-    ensures { λ r. ⌜ r ≡ optionIfEnabled enabled fast ⌝ }
+// An option as it was read, or none where it is not allowed.
+pub fn option_if(enabled: bool, fast: FastOpenOption) -> FastOpenOption
+    ensures { λ r. ⌜ r ≡ optionIf enabled fast ⌝ }
 {
     if enabled {
         return fast;

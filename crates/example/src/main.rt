@@ -94,6 +94,7 @@ fn main() {
         hold: 1000,
         mss: 1460,
         codings: Codings::NewOnly,
+        share: 8,
     };
     let set = set_settings(server.listener, 0, settings);
     print_line(b"first opening, ", b"to get a cookie");

@@ -8,7 +8,7 @@ use lib.ListN.{length}
 use lib.Seq.{take-take}
 use Rattle.endpoint.specs.Address.{block}
 use Rattle.protocol.specs.Cookie.{request, cookie, cookieUnder, carriedBy, counts, right}
-use Rattle.protocol.specs.Call.{acceptedOf}
+use Rattle.protocol.specs.Call.{sender, acceptedOf}
 use Rattle.protocol.specs.View.{viewOf}
 use Rattle.protocol.specs.Step as listener
 use Rattle.protocol.specs.declared.state.Listener.{Listener}
@@ -16,7 +16,7 @@ use Rattle.protocol.specs.declared.outcome.Event.{Event}
 use Rattle.protocol.specs.declared.outcome.Event.the-variants as events
 use Rattle.protocol.specs.declared.outcome.Outcome.{Outcome}
 use Rattle.protocol.proofs.Cookie.{no-cookie, never-right}
-use Rattle.protocol.proofs.Openings.{is-early, wrong-plain, wrong-fresh, new-clear, step-new}
+use Rattle.protocol.proofs.Openings.{enabled, is-early, wrong-plain, wrong-fresh, new-clear, step-new}
 use Rattle.protocol.proofs.StartOf as starting
 use Rattle.client.specs.Step as client
 use Rattle.client.specs.declared.outcome.Event.the-variants.{Answered}
@@ -49,6 +49,9 @@ module _ (m : Memory) (l : Listener) (a : Asked) (e : Ends m l a) where
           iss = w .iss;
         }
 
+    cookies-enabled : listener.cookiesEnabled (viewOf l (arriving m a h)) ≡ true
+    cookies-enabled = enabled l (h .time) (sender (a .own) (opening m a)) (w .on) (w .below) (w .spare)
+
     -- without a right cookie it is plain, and where an option counts it gets a cookie
     abbrev is-right : Bool
     is-right = right (l .keys) (block (a .own)) (carriedBy (l .settings .codings) (opening m a))
@@ -61,7 +64,7 @@ module _ (m : Memory) (l : Listener) (a : Asked) (e : Ends m l a) where
           (wrong-plain (viewOf l (arriving m a h)) (block (a .own)) (opening m a) wrong) (taken .clear))
 
       fresh : counts (carriedBy (l .settings .codings) (opening m a)) ≡ true → renewed m l a h ≡ true
-      fresh some = wrong-fresh l (h .time) (a .own) (opening m a) (w .on) (w .below) wrong some
+      fresh some = wrong-fresh (viewOf l (arriving m a h)) (block (a .own)) (opening m a) cookies-enabled wrong some
 
       none-answered : (m′ : Memory) (r : Receipt) → Later m m′ r → client.step m′ (returning m l a h r) .event ≡ Answered 0
       none-answered m′ r g = syn-ack-read-by-client m l a e h taken m′ r g .event ∙ ap (λ (x : Event). Answered (acceptedOf x)) plain-event
@@ -101,7 +104,7 @@ module _ (m : Memory) (l : Listener) (a : Asked) (e : Ends m l a) where
     early-event : Issued (l .keys) (block (a .own)) (stored m a) → listener.step l (arriving m a h) .event ≡ events.FastOpened (upToEarlyRoom m l a)
     early-event i =
         let right = right-cookie m l a e (w .free) i in
-        let early = is-early l (h .time) (a .own) (opening m a) (w .on) (w .below) right in
+        let early = is-early (viewOf l (arriving m a h)) (block (a .own)) (opening m a) cookies-enabled right in
         ap (λ (o : Outcome). o .event)
         (step-new l (h .time) (a .own) (opening m a) (h .iss) (h .out-len) (opening-read-by-listener m l a e .kind) (w .new) true early (taken .clear))
         ∙ ap (λ (n : ℕ). events.FastOpened (min n (l .settings .«early_room»))) (payload-length m l a e)

@@ -20,7 +20,7 @@ use Rattle.segment.specs.declared.options.Codings.{Codings}
 use Rattle.endpoint.specs.Address.{block}
 use Rattle.endpoint.specs.Checks.{isUntimely}
 use Rattle.protocol.specs.Cookie.{Carried, nothing, request, cookie, cookieUnder, carriedBy, right}
-use Rattle.protocol.specs.Table.{slotCount, freePlace, pendingAt}
+use Rattle.protocol.specs.Table.{slotCount, freePlace, pendingAt, pendingFrom}
 use Rattle.protocol.specs.Call.{segment, acceptedOf, acceptedPart}
 use Rattle.protocol.specs.Call as listener-calls
 use Rattle.protocol.specs.View.{known, ownAddress, viewOf}
@@ -189,11 +189,12 @@ pub record SynAckRead (m : Memory) (l : Listener) (a : Asked) (h : Arrival) (m�
 -- Three kinds of opening: a request gets a cookie, with a right cookie the data is handed over at once, and one that is right under neither key is
 -- replaced.
 
--- Fast Open is on, pending is below the limit, a place is free, the name is new, and the server is not banned
+-- Fast Open is on, pending is below the limit and that of the client's address below its share (02, Item 8), a place is free, the name is new, and the server is not banned
 pub record Admits (m : Memory) (l : Listener) (a : Asked) (h : Arrival) : Type 0 where
   pub listens : Listens l h
   pub on : l .settings .on ≡ true
   pub below : pendingAt (h .time) (l .slots) < l .settings .limit
+  pub spare : pendingFrom (h .time) (block (a .own)) (l .slots) < l .settings .share
   pub place : freePlace (h .time) (l .slots) < slotCount
   pub new : known (viewOf l (arriving m a h)) ≡ false
   pub iss : h .iss < 2 ^ 32

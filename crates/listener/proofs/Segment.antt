@@ -45,7 +45,7 @@ use Rattle.protocol.specs.declared.slots.Scan.{Scan}
 use Rattle.protocol.proofs.Table.{not-free, from-some}
 use Rattle.protocol.proofs.Step.{refusedWith, segment-refused, segment-writes-none, segment-writes, wired-formed}
 use Rattle.table.proofs.ScanOf.{in-table}
-use Rattle.decisions.specs.Parts.{hasKind, isOpening, openingChecks, openingCheck, enabledWith, slotsToCount, optionIfEnabled, laterChecks, laterEvent, laterSlot}
+use Rattle.decisions.specs.Parts.{hasKind, isOpening, openingChecks, openingCheck, limitAllows, slotsToCount, optionIf, laterChecks, laterEvent, laterSlot}
 use Rattle.decisions.specs.declared.action.Opened.{Opened}
 use Rattle.decisions.specs.declared.checks.OpeningCheck.{OpeningCheck}
 use Rattle.decisions.specs.declared.checks.OpeningCheck.the-variants as openings
@@ -136,10 +136,10 @@ module _ (l : Listener) (t : ℕ) (src seg : List ℕ) (iss out-len : ℕ) (firs
             ltb-true (scan .free) 64 (rw (was .1) at some)
 
         -- the option is allowed by the settings and pending, then by what was counted of the address
-        module _ {enabled : Bool} {area : List ℕ} {report : Report} {allowed fast : FastOpenOption} {end own : ℕ} (ee : enabled ≡ enabledWith (l .settings) (scan .pending))
-            (er : Read area report) (ea : allowed ≡ optionIfEnabled enabled (report .options .fast)) (en : end ≡ slotsToCount (l .settings .share) (scan .pending) allowed)
-            (none : end ≡ 0 → own ≡ 0) (each : end ≡ 64 → own ≡ pendingFrom t b (l .slots)) (eo : fast ≡ optionIfEnabled (ltb own (l .settings .share)) allowed) where
-          fast-as : fast ≡ optionIfEnabled (cookiesEnabled v) (readOptions (l .settings .codings) (optionArea seg) .fast)
+        module _ {enabled : Bool} {area : List ℕ} {report : Report} {allowed fast : FastOpenOption} {end own : ℕ} (ee : enabled ≡ limitAllows (l .settings) (scan .pending))
+            (er : Read area report) (ea : allowed ≡ optionIf enabled (report .options .fast)) (en : end ≡ slotsToCount (l .settings .share) (scan .pending) allowed)
+            (none : end ≡ 0 → own ≡ 0) (each : end ≡ 64 → own ≡ pendingFrom t b (l .slots)) (eo : fast ≡ optionIf (ltb own (l .settings .share)) allowed) where
+          fast-as : fast ≡ optionIf (cookiesEnabled v) (readOptions (l .settings .codings) (optionArea seg) .fast)
           fast-as =
               eo ∙ (by-share v {pending = scan .pending} {from = pendingFrom t (block src) (l .slots)} (rw scan-is) refl (rw scan-is (from-some t (block src) (l .slots))) own (report .options .fast) allowed
               (rw ee at ea) (λ z. none (en ∙ z)) (λ z. rw eb at (each (en ∙ z))) ∙ rw (report-as er) refl)

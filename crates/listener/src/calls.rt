@@ -2,17 +2,17 @@
 // and leaves the output alone.
 //
 // A listener is large, and a function that takes one and indexes its slots copies it. So each call goes through the table itself, in the copy that becomes
-// the next listener, which it makes only after its first checks; and each of its ends is a `return`. An opening scans the table, and counts its own address's
-// where that may matter; any other call that needs a connection searches it.
+// the next listener, which it makes only after its first checks; and each of its ends is a `return`. An opening scans the table, and where that may
+// matter counts the pending slots of its source address; any other call that needs a connection searches it.
 use crate::outcome::new_outcome;
 use cipher::expand_key;
-use decisions::action::cookies_enabled;
 use decisions::action::is_opening;
 use decisions::action::later_event;
 use decisions::action::later_slot;
+use decisions::action::limit_allows;
 use decisions::action::open_by_option;
 use decisions::action::open_plain;
-use decisions::action::option_if_enabled;
+use decisions::action::option_if;
 use decisions::action::slots_to_count;
 use decisions::checks::OpeningCheck;
 use decisions::checks::Received;
@@ -250,16 +250,16 @@ pub fn segment(l: Listener, time: u64, src: &[u8], seg: &[u8], iss: u32, out: &m
                         let remarks = report.remarks;
                         let options = report.options;
                         let read = options.fast;
-                        let allowed =
-                            option_if_enabled(cookies_enabled(settings, scan.pending), read);
+                        let allowed = option_if(limit_allows(settings, scan.pending), read);
+                        // The source address's number is at most pending: it is counted only where pending reaches the share.
                         let end = slots_to_count(settings.share, scan.pending, allowed);
-                        let mut own: u32 = 0;
+                        let mut from_source: u32 = 0;
                         for k in 0..end {
                             let s = next.slots[k];
-                            let more = count_if(own, pends_from(time, b, s));
-                            own = more;
+                            let more = count_if(from_source, pends_from(time, b, s));
+                            from_source = more;
                         }
-                        let fast = option_if_enabled(own < settings.share, allowed);
+                        let fast = option_if(from_source < settings.share, allowed);
                         // Without an option no key is read.
                         if !is_counted(fast) {
                             let new = open_plain(b, h, iss);

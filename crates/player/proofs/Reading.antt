@@ -21,16 +21,17 @@ module _ (a b : List ℕ) where
   start-of (some n) (some p) none = refl
   start-of (some n) (some p) (some m) = refl
 
-  settings-of : (t : Option ℕ) (on : Option Bool) (i j k m : Option ℕ) (both : Option Bool)
-      → requestRead (readingOf (some settingsOrder ⊛ t ⊛ on ⊛ i ⊛ j ⊛ k ⊛ m ⊛ both)) a b ≡ some setting ⊛ t ⊛ on ⊛ i ⊛ j ⊛ k ⊛ m ⊛ both
-  settings-of none on i j k m both = refl
-  settings-of (some t) none i j k m both = refl
-  settings-of (some t) (some on) none j k m both = refl
-  settings-of (some t) (some on) (some i) none k m both = refl
-  settings-of (some t) (some on) (some i) (some j) none m both = refl
-  settings-of (some t) (some on) (some i) (some j) (some k) none both = refl
-  settings-of (some t) (some on) (some i) (some j) (some k) (some m) none = refl
-  settings-of (some t) (some on) (some i) (some j) (some k) (some m) (some both) = refl
+  settings-of : (t : Option ℕ) (on : Option Bool) (i j k m : Option ℕ) (both : Option Bool) (n : Option ℕ)
+      → requestRead (readingOf (some settingsOrder ⊛ t ⊛ on ⊛ i ⊛ j ⊛ k ⊛ m ⊛ both ⊛ n)) a b ≡ some setting ⊛ t ⊛ on ⊛ i ⊛ j ⊛ k ⊛ m ⊛ both ⊛ n
+  settings-of none on i j k m both n = refl
+  settings-of (some t) none i j k m both n = refl
+  settings-of (some t) (some on) none j k m both n = refl
+  settings-of (some t) (some on) (some i) none k m both n = refl
+  settings-of (some t) (some on) (some i) (some j) none m both n = refl
+  settings-of (some t) (some on) (some i) (some j) (some k) none both n = refl
+  settings-of (some t) (some on) (some i) (some j) (some k) (some m) none n = refl
+  settings-of (some t) (some on) (some i) (some j) (some k) (some m) (some both) none = refl
+  settings-of (some t) (some on) (some i) (some j) (some k) (some m) (some both) (some n) = refl
 
   key-of : (t n : Option ℕ) → requestRead (readingOf (some keyOrder ⊛ t ⊛ n)) a b ≡ some keying ⊛ t ⊛ front a n
   key-of none n = refl
@@ -62,8 +63,8 @@ module _ (a b : List ℕ) where
 -- ---- each line: r was read, and left these bytes in the buffers
 
 module _ (s a : List ℕ) (u : length a ≡ 4096) (a′ b′ : List ℕ) {r : Reading} where
-  pub settings-read : (both : Option Bool) → r ≡ settingsReading both s → requestRead r a′ b′ ≡ settingsIn both s
-  settings-read both e = rw e (settings-of a′ b′ (timeAt 1 s) (onAt 2 s) (numberAt 3 s) (numberAt 4 s) (numberAt 5 s) (numberAt 6 s) both)
+  pub settings-read : (both : Option Bool) (share : Option ℕ) → r ≡ settingsReading both share s → requestRead r a′ b′ ≡ settingsIn both share s
+  settings-read both share e = rw e (settings-of a′ b′ (timeAt 1 s) (onAt 2 s) (numberAt 3 s) (numberAt 4 s) (numberAt 5 s) (numberAt 6 s) both share)
 
   pub key-read : r ≡ keyReading s (length a) → a′ ≡ bytesOver 2 s a → requestRead r a′ b′ ≡ keyIn s
   key-read e p = rw (e, p) (key-of (bytesOver 2 s a) b′ (timeAt 1 s) (countAt 2 s (length a)) ∙ rw (bytes-front 2 s a u))

@@ -22,8 +22,8 @@ readingOf (some o) = Known o
 abbrev pub startOrder : ℕ → ℕ → ℕ → Order
 startOrder own port k = Start own port k
 
-abbrev pub settingsOrder : ℕ → Bool → ℕ → ℕ → ℕ → ℕ → Bool → Order
-settingsOrder t on limit early-room hold mss both = Settings t (settingsOf on limit early-room hold mss both)
+abbrev pub settingsOrder : ℕ → Bool → ℕ → ℕ → ℕ → ℕ → Bool → ℕ → Order
+settingsOrder t on limit early-room hold mss both share = Settings t (settingsOf on limit early-room hold mss both share)
 
 abbrev pub keyOrder : ℕ → ℕ → Order
 keyOrder t k = Key t k
@@ -42,8 +42,8 @@ resendOrder t a p out = Resend t a p out
 abbrev pub startReading : List ℕ → ℕ → ℕ → Reading
 startReading s n m = readingOf (some startOrder ⊛ countAt 1 s n ⊛ portAt 2 s ⊛ countAt 3 s m)
 
-abbrev pub settingsReading : Option Bool → List ℕ → Reading
-settingsReading both s = readingOf (some settingsOrder ⊛ timeAt 1 s ⊛ onAt 2 s ⊛ numberAt 3 s ⊛ numberAt 4 s ⊛ numberAt 5 s ⊛ numberAt 6 s ⊛ both)
+abbrev pub settingsReading : Option Bool → Option ℕ → List ℕ → Reading
+settingsReading both share s = readingOf (some settingsOrder ⊛ timeAt 1 s ⊛ onAt 2 s ⊛ numberAt 3 s ⊛ numberAt 4 s ⊛ numberAt 5 s ⊛ numberAt 6 s ⊛ both ⊛ share)
 
 abbrev pub keyReading : List ℕ → ℕ → Reading
 keyReading s n = readingOf (some keyOrder ⊛ timeAt 1 s ⊛ countAt 2 s n)

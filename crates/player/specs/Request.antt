@@ -6,7 +6,7 @@ use mathlib.Core.List.{List, [], _∷_}
 use mathlib.Core.Option.{Option, some}
 use Rattle.segment.specs.Options.{codingsOf}
 use Rattle.protocol.specs.declared.state.Settings.{Settings}
-use Rattle.protocol.specs.Call.{Call, segment, settings, key, resend}
+use Rattle.protocol.specs.Call.{freshShare, Call, segment, settings, key, resend}
 use Rattle.protocol.specs.Refusals.{releaseOf}
 use Rattle.text.specs.Argument.{timeAt, portAt, numberAt, outAt, onAt, bothAt, bytesAt, _⊛_, isCall, firstCase}
 
@@ -20,12 +20,12 @@ pub data Request : Type 0 where
 abbrev pub starting : List ℕ → ℕ → List ℕ → Request
 starting own port k = start own port k
 
-abbrev pub settingsOf : Bool → ℕ → ℕ → ℕ → ℕ → Bool → Settings
-settingsOf on limit early-room hold mss both =
-    record { on = on; limit = limit; «early_room» = early-room; hold = hold; mss = mss; codings = codingsOf both }
+abbrev pub settingsOf : Bool → ℕ → ℕ → ℕ → ℕ → Bool → ℕ → Settings
+settingsOf on limit early-room hold mss both share =
+    record { on = on; limit = limit; «early_room» = early-room; hold = hold; mss = mss; codings = codingsOf both; share = share }
 
-abbrev pub setting : ℕ → Bool → ℕ → ℕ → ℕ → ℕ → Bool → Request
-setting t on limit early-room hold mss both = call (settings t (settingsOf on limit early-room hold mss both))
+abbrev pub setting : ℕ → Bool → ℕ → ℕ → ℕ → ℕ → Bool → ℕ → Request
+setting t on limit early-room hold mss both share = call (settings t (settingsOf on limit early-room hold mss both share))
 
 abbrev pub keying : ℕ → List ℕ → Request
 keying t k = call (key t k)
@@ -45,9 +45,9 @@ resending t a p out = call (resend t a p out)
 abbrev pub startIn : List ℕ → Option Request
 startIn s = some starting ⊛ bytesAt 1 s ⊛ portAt 2 s ⊛ bytesAt 3 s
 
--- settings TIME on|off LIMIT ROOM HOLD MSS, with what new|both comes to
-abbrev pub settingsIn : Option Bool → List ℕ → Option Request
-settingsIn both s = some setting ⊛ timeAt 1 s ⊛ onAt 2 s ⊛ numberAt 3 s ⊛ numberAt 4 s ⊛ numberAt 5 s ⊛ numberAt 6 s ⊛ both
+-- settings TIME on|off LIMIT ROOM HOLD MSS, with what new|both and SHARE come to
+abbrev pub settingsIn : Option Bool → Option ℕ → List ℕ → Option Request
+settingsIn both share s = some setting ⊛ timeAt 1 s ⊛ onAt 2 s ⊛ numberAt 3 s ⊛ numberAt 4 s ⊛ numberAt 5 s ⊛ numberAt 6 s ⊛ both ⊛ share
 
 -- key TIME KEY
 abbrev pub keyIn : List ℕ → Option Request
@@ -67,13 +67,14 @@ resendIn s = some resending ⊛ timeAt 1 s ⊛ bytesAt 2 s ⊛ portAt 3 s ⊛ ou
 
 -- A line is one of these by its first word, and by how many spaces it has.
 
--- `segment`, `start`, `settings` without new|both, which is then new, and with it, `key`, `abandon`, `close`, `resend`
+-- `segment`, `start`, `settings` without new|both and SHARE, which are then new and the fresh share, without SHARE, and with both, `key`, `abandon`, `close`, `resend`
 abbrev pub cases : List ℕ → List (Bool × Option Request)
 cases s =
     (isCall (115 ∷ 101 ∷ 103 ∷ 109 ∷ 101 ∷ 110 ∷ 116 ∷ []) 5 s, segmentIn s)
     ∷ (isCall (115 ∷ 116 ∷ 97 ∷ 114 ∷ 116 ∷ []) 3 s, startIn s)
-    ∷ (isCall (115 ∷ 101 ∷ 116 ∷ 116 ∷ 105 ∷ 110 ∷ 103 ∷ 115 ∷ []) 6 s, settingsIn (some false) s)
-    ∷ (isCall (115 ∷ 101 ∷ 116 ∷ 116 ∷ 105 ∷ 110 ∷ 103 ∷ 115 ∷ []) 7 s, settingsIn (bothAt 7 s) s)
+    ∷ (isCall (115 ∷ 101 ∷ 116 ∷ 116 ∷ 105 ∷ 110 ∷ 103 ∷ 115 ∷ []) 6 s, settingsIn (some false) (some freshShare) s)
+    ∷ (isCall (115 ∷ 101 ∷ 116 ∷ 116 ∷ 105 ∷ 110 ∷ 103 ∷ 115 ∷ []) 7 s, settingsIn (bothAt 7 s) (some freshShare) s)
+    ∷ (isCall (115 ∷ 101 ∷ 116 ∷ 116 ∷ 105 ∷ 110 ∷ 103 ∷ 115 ∷ []) 8 s, settingsIn (bothAt 7 s) (numberAt 8 s) s)
     ∷ (isCall (107 ∷ 101 ∷ 121 ∷ []) 2 s, keyIn s)
     ∷ (isCall (97 ∷ 98 ∷ 97 ∷ 110 ∷ 100 ∷ 111 ∷ 110 ∷ []) 3 s, releaseIn false s)
     ∷ (isCall (99 ∷ 108 ∷ 111 ∷ 115 ∷ 101 ∷ []) 3 s, releaseIn true s)

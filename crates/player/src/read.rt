@@ -1,4 +1,5 @@
 // A line's words, read: which request it is, its numbers, and the lengths of its byte strings, whose bytes go to the start of two buffers.
+use protocol::state::FRESH_SHARE;
 use protocol::state::Settings;
 use segment::options::codings_of;
 use text::argument::Switch;
@@ -118,8 +119,9 @@ fn settings_order(
     hold: Number32,
     mss: Number32,
     both: Switch,
+    share: Number32,
 ) -> Reading
-    ensures { λ r. ⌜ r ≡ readingOf (some settingsOrder ⊛ valueOf time ⊛ truthOf on ⊛ value32 limit ⊛ value32 «early_room» ⊛ value32 hold ⊛ value32 mss ⊛ truthOf both) ⌝ }
+    ensures { λ r. ⌜ r ≡ readingOf (some settingsOrder ⊛ valueOf time ⊛ truthOf on ⊛ value32 limit ⊛ value32 «early_room» ⊛ value32 hold ⊛ value32 mss ⊛ truthOf both ⊛ value32 share) ⌝ }
 {
     let Number::Value(time) = time else {
         return Reading::Bad;
@@ -142,6 +144,9 @@ fn settings_order(
     let Switch::Value(both) = both else {
         return Reading::Bad;
     };
+    let Number32::Value(share) = share else {
+        return Reading::Bad;
+    };
     let codings = codings_of(both);
     let settings = Settings {
         on,
@@ -150,6 +155,7 @@ fn settings_order(
         hold,
         mss,
         codings,
+        share,
     };
     Reading::Known(Order::Settings { time, settings })
 }
@@ -256,9 +262,9 @@ fn read_start(line: &[u8], own: &mut [u8], key: &mut [u8]) -> Reading
     start_order(n, port, m)
 }
 
-// settings TIME on|off LIMIT ROOM HOLD MSS, with new|both as it was read
-fn read_settings(line: &[u8], both: Switch) -> Reading
-    ensures { λ r. ⌜ r ≡ settingsReading (truthOf both) (now (line .entry)) ⌝ }
+// settings TIME on|off LIMIT ROOM HOLD MSS, with new|both and SHARE as they were read
+fn read_settings(line: &[u8], both: Switch, share: Number32) -> Reading
+    ensures { λ r. ⌜ r ≡ settingsReading (truthOf both) (value32 share) (now (line .entry)) ⌝ }
 {
     let time = time_at(line, 1);
     let on = on_at(line, 2);
@@ -266,7 +272,7 @@ fn read_settings(line: &[u8], both: Switch) -> Reading
     let early_room = number_at(line, 4);
     let hold = number_at(line, 5);
     let mss = number_at(line, 6);
-    settings_order(time, on, limit, early_room, hold, mss, both)
+    settings_order(time, on, limit, early_room, hold, mss, both, share)
 }
 
 // key TIME KEY
@@ -319,7 +325,7 @@ fn read_resend(line: &[u8], addr: &mut [u8]) -> Reading
 // Reads a request by a connection's name, or a key, which has one byte string at most.
 fn read_named(line: &[u8], a: &mut [u8]) -> Reading
     requires { ⌜ length (now a) ≡ 4096 ⌝ }
-    ensures { λ r. ⌜ ((b : List ℕ) → requestRead r (now (a .exit)) b ≡ firstCase (drop 4 (cases (now (line .entry))))) ⌝ }
+    ensures { λ r. ⌜ ((b : List ℕ) → requestRead r (now (a .exit)) b ≡ firstCase (drop 5 (cases (now (line .entry))))) ⌝ }
 {
     if is_call(line, b"key", 2) {
         return read_key(line, a);
@@ -348,10 +354,13 @@ pub(crate) fn read_request(line: &[u8], a: &mut [u8], b: &mut [u8]) -> Reading
         return read_start(line, a, b);
     }
     if is_call(line, b"settings", 6) {
-        return read_settings(line, Switch::Value(false));
+        return read_settings(line, Switch::Value(false), Number32::Value(FRESH_SHARE));
     }
     if is_call(line, b"settings", 7) {
-        return read_settings(line, both_at(line, 7));
+        return read_settings(line, both_at(line, 7), Number32::Value(FRESH_SHARE));
+    }
+    if is_call(line, b"settings", 8) {
+        return read_settings(line, both_at(line, 7), number_at(line, 8));
     }
     read_named(line, a)
 }

@@ -34,7 +34,7 @@ use Rattle.protocol.specs.View.{known, scanFor, view, viewOf}
 use Rattle.protocol.specs.Refusals.{kindChecks, checks, callCheck}
 use Rattle.protocol.specs.Step as steps
 use Rattle.protocol.specs.Step.{freshListener, startChecks, startedBy, startOf, newEvent, openingEvent, segmentEvent, doneEvent, heldUntil, slotAfter, moved, put, segmentAfter, freed, storedSettings, after, outcomeOf, step, pendingNumber}
-use Rattle.protocol.specs.Journal.{Mark, markPlain, markEarly, markOpen, markHeld, Entry, PreviousKey, noKey, aKey, Journal, freshJournal, pendingOf, pendingFor, named, has, kept, only, removed, completed, resetMark, wasReset, with, amended, rightBefore, hasRight, opensEarly, newMark, opened, atTime, segmentNoted, noted, feed, Decision, newDecision, openingDecision, segmentDecision, doneDecision, journalDecision}
+use Rattle.protocol.specs.Journal.{Mark, markPlain, markEarly, markOpen, markHeld, Entry, PreviousKey, noKey, aKey, Journal, freshJournal, pendingOf, pendingOfAddress, named, has, kept, only, removed, completed, resetMark, wasReset, with, amended, rightBefore, hasRight, opensEarly, newMark, opened, atTime, segmentNoted, noted, feed, Decision, newDecision, openingDecision, segmentDecision, doneDecision, journalDecision}
 use Rattle.protocol.specs.Demand3.{segmentOf, listenerDecision, listenerAfter, listenerDecisions, numbered, journalAfter, journalDecisions, addressPending, Demand3}
 use Rattle.protocol.specs.declared.slots.Status.{Status}
 use Rattle.protocol.specs.declared.slots.Status.the-variants.{Free, SynReceived, SynReceivedEarly, ResetHeld, Established}
@@ -172,10 +172,10 @@ module _ (l : Listener) (j : Journal) (t : ℕ) (a : Agrees l j) (forward : l .c
   unfolding steps.isEarly opensEarly
   early-same src seg local =
       let below = ltb (pendingAt t (l .slots)) (l .settings .limit) in
-      let within = ltb (pendingFrom t (block src) (l .slots)) (l .settings .share) in
+      let spare = ltb (pendingFrom t (block src) (l .slots)) (l .settings .share) in
       let cookie = right (l .keys) (block src) (carriedBy (l .settings .codings) seg) in
-      and-assoc (l .settings .on) (below && within) cookie
-      ∙ (ap (λ x. l .settings .on && x) (and-assoc below within cookie)
+      and-assoc (l .settings .on) (below && spare) cookie
+      ∙ (ap (λ x. l .settings .on && x) (and-assoc below spare cookie)
       ∙ rw (a .settings, right-same src seg, pending-same now, from-same now src local (a .table .fits)))
 
   -- a peer, by an address of the family
@@ -361,7 +361,7 @@ module _ (l : Listener) (j : Journal) (g : Agrees l j) where
   unfolding pendingNumber
   same-pending = rw (g .started) (sym (pending-same (g .table .match)) ∙ rw (g .time) (pending-settled (l .clock) (j .entries)))
 
-  same-address : (a : List ℕ) → length a ≡ size (l .local .family) → addressPending l a ≡ pendingFor j a
+  same-address : (a : List ℕ) → length a ≡ size (l .local .family) → addressPending l a ≡ pendingOfAddress j a
   same-address a local = sym (from-same (g .table .match) a local (g .table .fits)) ∙ rw (g .time) (from-settled (l .clock) a (j .entries))
 
 -- The start

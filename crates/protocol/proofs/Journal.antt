@@ -16,7 +16,7 @@ use Rattle.lists.proofs.SameBytes.{same-bytes-eq, same-bytes-refl}
 use Rattle.endpoint.proofs.Names.{samePeer-eq, samePeer-refl, short}
 use Rattle.lists.proofs.Sums.{sum-ext, sum-le, sum-amend, sum-set, sum-only, amend-amend, amend-ext, All, sum-ext-all}
 use Rattle.protocol.specs.Table.{isLive, isPending, holdsPeer, pendingAt, pendsFrom, pendingFrom, freeSlot}
-use Rattle.protocol.specs.Journal.{Mark, markPlain, markEarly, markOpen, markHeld, Entry, pends, pendsFor, named, keptMark, kept, only}
+use Rattle.protocol.specs.Journal.{Mark, markPlain, markEarly, markOpen, markHeld, Entry, pends, pendsOfAddress, named, keptMark, kept, only}
 use Rattle.protocol.specs.declared.slots.Status.{Status}
 use Rattle.protocol.specs.declared.slots.Status.the-variants.{Free, SynReceived, SynReceivedEarly, ResetHeld, Established}
 use Rattle.protocol.specs.declared.slots.Slot.{Slot}
@@ -185,7 +185,7 @@ module _ {f : Family} {t : ℕ} {slots : List Slot} {es : List Entry} (m : Match
   unfolding any
   pending-same = sym (any-pends t es) ∙ (of-same any ∙ sum-ext _ _ (λ s. ap bit (and-true (isPending t (s .status)))) slots)
 
-  pub from-same : (a : List ℕ) → length a ≡ size f → All (Fits f) slots → tally (pendsFor t a) es ≡ pendingFrom t (block a) slots
+  pub from-same : (a : List ℕ) → length a ≡ size f → All (Fits f) slots → tally (pendsOfAddress t a) es ≡ pendingFrom t (block a) slots
   unfolding pendsFrom
   from-same a h fits = of-same (λ p. sameBytes (p .address) a) ∙ sum-ext-all (Fits f) _ _ (λ s fit. ap (λ c. bit (isPending t (s .status) && c)) (same-address f s a h fit)) slots fits
 
@@ -247,7 +247,7 @@ turned-on f t t′ slots es h m =
 pub pending-settled : (t : ℕ) (es : List Entry) → tally (λ e. pends t (e .mark)) (amend (kept t) es) ≡ tally (λ e. pends t (e .mark)) es
 pending-settled t es = sym (any-pends t (amend (kept t) es)) ∙ (of-settled t any es ∙ any-pends t es)
 
-pub from-settled : (t : ℕ) (a : List ℕ) (es : List Entry) → tally (pendsFor t a) (amend (kept t) es) ≡ tally (pendsFor t a) es
+pub from-settled : (t : ℕ) (a : List ℕ) (es : List Entry) → tally (pendsOfAddress t a) (amend (kept t) es) ≡ tally (pendsOfAddress t a) es
 from-settled t a es = of-settled t (λ p. sameBytes (p .address) a) es
 
 -- a peer's entry changes by a rule, and its slot to what the rule leaves of the slot's entry

@@ -27,6 +27,7 @@ use Rattle.protocol.specs.View.{known, settingsAt, slotAt, scanFor, view
 use Rattle.protocol.specs.Refusals.{kindChecks, checks, callCheck}
 use Rattle.protocol.specs.Step.{startOf, cookiesEnabled, isEarly, accepts, carriedAt, newEvent, openingEvent, segmentEvent, heldUntil, slotAfter, put, segmentAfter, freed, after, outcomeOf, step}
 use Rattle.protocol.specs.Demand3.{listenerAfter, addressPending}
+use Rattle.protocol.specs.TwoOpenings.{Arrival}
 use Rattle.protocol.specs.Share.{Under, AtMost, ShareBound, AtShare}
 use Rattle.protocol.specs.declared.slots.Status.{Status}
 use Rattle.protocol.specs.declared.slots.Status.the-variants.{Free, SynReceived, SynReceivedEarly, ResetHeld, Established}
@@ -34,23 +35,25 @@ use Rattle.protocol.specs.declared.slots.Slot.{Slot}
 use Rattle.protocol.specs.declared.state.View.{View}
 use Rattle.protocol.specs.declared.state.Listener.{Listener}
 use Rattle.protocol.proofs.Table.{idle, and-most, from-earlier}
-use Rattle.protocol.proofs.Openings.{slotFor, early-is}
+use Rattle.protocol.proofs.Openings.{slotFor, early-is, new-clear}
 use Rattle.protocol.proofs.Sixteen.{disabled-plain}
 use Rattle.protocol.proofs.Demand3.{on-time}
 use Rattle.protocol.proofs.Fixed.{step-fixed, after-fixed, start-slots}
 
 -- One opening
 
-pub at-share : (l : Listener) (t : ℕ) (src seg : List ℕ) (iss out-len : ℕ) → AtShare l t src seg iss out-len
-at-share l t src seg iss out-len o h =
-    disabled-plain l t src seg iss out-len o
-    (rw (le-ltb (pendingFrom t (block src) (l .slots)) (l .settings .share) h, and-false (view l t (sender src seg) .below)) (and-false (l .settings .on)))
+pub at-share : (l : Listener) (src : List ℕ) (a : Arrival) → AtShare l src a
+at-share l src a o new slots free h =
+    let t = a .time in
+    let clear = new-clear l t src (a .seg) (a .iss) (a .out-len) (o .syn) new (o .clear) free in
+    disabled-plain l t src (a .seg) (a .iss) (a .out-len) (record { clear = clear; syn = o .syn; new = new; slots = slots })
+    (rw (le-ltb (pendingFrom t (block src) (l .slots)) (l .settings .share) h, and-false (view l t (sender src (a .seg)) .below)) (and-false (l .settings .on)))
 
 -- an early one's address is below its share
-early-within : (v : View) (b seg : List ℕ) → isEarly v b seg ≡ true → v .within ≡ true
-early-within v b seg e =
+early-spare : (v : View) (b seg : List ℕ) → isEarly v b seg ≡ true → v .spare ≡ true
+early-spare v b seg e =
     let on = and-true (cookiesEnabled v) (right (v .keys) b (carriedAt v seg)) (sym (early-is v b seg) ∙ e) .0 in
-    and-true (v .below) (v .within) (and-true (v .settings .on) (v .below && v .within) on .1) .1
+    and-true (v .below) (v .spare) (and-true (v .settings .on) (v .below && v .spare) on .1) .1
 
 -- The bound, for the address with this block
 module _ (b : List ℕ) where
@@ -107,7 +110,7 @@ module _ (b : List ℕ) where
               entered true,
               ap bit q,
               subst (λ y. pendingFrom t y (l .slots) < l .settings .share) (same-bytes-eq (block src) b q)
-                  (ltb-true _ _ (early-within (view l t (sender src seg)) (block src) seg e)),
+                  (ltb-true _ _ (early-spare (view l t (sender src seg)) (block src) seg e)),
             )
         go false q = omega (arith, entered true, ap bit q)
 
@@ -168,14 +171,14 @@ module _ (b : List ℕ) where
     timed (close t a p) q = on-time l t (q .1 .0)
 
     -- A call, from its listener's clock on
-    step-most : (c : Call) → number (step l c .listener) ≤ max (settingsAt l (timeOf c) .share) (number l)
+    step-most : (share : ℕ) (c : Call) → (callCheck l c ≡ Clear → settingsAt l (timeOf c) .share ≡ share) → number (step l c .listener) ≤ max share (number l)
     unfolding step callCheck
-    step-most c = go (callCheck l c) refl
+    step-most share c under = go (callCheck l c) refl
       where
-        go : (r : Check) → callCheck l c ≡ r → number (outcomeOf l c r .listener) ≤ max (l .settings .share) (number l)
+        go : (r : Check) → callCheck l c ≡ r → number (outcomeOf l c r .listener) ≤ max share (number l)
         go Clear e =
             let q = every-check (checks (viewOf l c) c) e in
-            omega (arith, done c q, sum-le (weight (timeOf c)) (weight (l .clock)) (from-earlier (l .clock) (timeOf c) (timed c q) b) (l .slots))
+            omega (arith, under e, done c q, sum-le (weight (timeOf c)) (weight (l .clock)) (from-earlier (l .clock) (timeOf c) (timed c q) b) (l .slots))
         go (Refused r) e = omega arith
 
 -- Lists of calls
@@ -183,7 +186,7 @@ bounded : (share m : ℕ) (l : Listener) (calls : List Call) (a : List ℕ) → 
     → AtMost (max share m) a l calls
 bounded share m l [] a long u h = tt
 bounded share m l (c ∷ cs) a long u h =
-    let first : addressPending (step l c .listener) a ≤ max share m = omega (arith, u .0, h, step-most (block a) l long c) in
+    let first : addressPending (step l c .listener) a ≤ max share m = omega (arith, h, step-most (block a) l long share c (u .0)) in
     (first, bounded share m (step l c .listener) cs a (step-fixed l c .1 ∙ long) (u .1) first)
 
 pub share-bound : (own : List ℕ) (port : ℕ) (k : List ℕ) (before : List Call) (share : ℕ) (calls : List Call) → ShareBound own port k before share calls

@@ -137,7 +137,7 @@ both-early l src a b w =
     fits = first-found (λ o. not (isLive t (o .status))) (l .slots) (omega (arith, w .free))
 
     one : (step l (callOf src a) .event ≡ events.FastOpened (upToEarlyRoom l a)) × (step l (callOf src a) .listener ≡ m)
-    one = early l src a (w .first) (w .first-new) (omega (arith, fits, w .slots)) (enabled l t (sender src (a .seg)) (w .on) (omega (arith, w .below)) (omega (arith, w .within))) (w .right-cookie)
+    one = early l src a (w .first) (w .first-new) (omega (arith, fits, w .slots)) (enabled l t (sender src (a .seg)) (w .on) (omega (arith, w .below)) (omega (arith, w .spare))) (w .right-cookie)
 
     opens : Opens m src b
     opens = subst (λ x. Opens x src b) (one .1) (w .second)
@@ -159,5 +159,5 @@ both-early l src a b w =
 
     two : step (step l (callOf src a) .listener) (callOf src b) .event ≡ events.FastOpened (upToEarlyRoom l b)
     two = subst (λ x. step x (callOf src b) .event ≡ events.FastOpened (upToEarlyRoom l b)) (sym (one .1))
-        (early m src b opens new free (enabled m u (sender src (b .seg)) (w .on) (omega (arith, w .below, pending-later t u later (l .slots) i s fits)) (omega (arith, w .within, from-later t u later (l .slots) i s fits (block src))))
+        (early m src b opens new free (enabled m u (sender src (b .seg)) (w .on) (omega (arith, w .below, pending-later t u later (l .slots) i s fits)) (omega (arith, w .spare, from-later t u later (l .slots) i s fits (block src))))
         (rw (w .one-cookie) at (w .right-cookie)) .0)

@@ -1,4 +1,4 @@
--- Document 01, "Listener": the calls that carry a time, and what an event is in 01's words.
+-- Document 01, "Listener", and document 02, Item 8 (the fresh share): the calls that carry a time, and what an event is in 01's words.
 -- Assumes nothing.
 use Prim.Native.Nat.{ℕ}
 use mathlib.Core.List.{List, []}

@@ -1,5 +1,5 @@
--- The letter's demand 3, document 01, "Demand 3's book", and document 02, Item 8: over every list of calls after a done start, refused ones included, the pending number, that of each address and
--- every verdict, accepted count and accepted part are those of the journal.
+-- The letter's demand 3, document 01, "Demand 3's book", and document 02, Item 8: over every list of calls after a done start, refused ones included, the
+-- pending number, that of each address and every verdict, accepted count and accepted part are those of the journal.
 -- Assumes nothing.
 use Prim.Native.Nat.{ℕ}
 use mathlib.Core.Path.{_≡_}
@@ -9,7 +9,7 @@ use Rattle.endpoint.specs.Address.{block}
 use Rattle.protocol.specs.Table.{pendingFrom}
 use Rattle.protocol.specs.Call.{Call, segment, settings, key, abandon, resend, close, numberOfEvent, verdictOf, acceptedOf, acceptedPart}
 use Rattle.protocol.specs.Step.{startOf, step, pendingNumber}
-use Rattle.protocol.specs.Journal.{Journal, freshJournal, feed, journalDecision, Decision, pendingOf, pendingFor}
+use Rattle.protocol.specs.Journal.{Journal, freshJournal, feed, journalDecision, Decision, pendingOf, pendingOfAddress}
 use Rattle.protocol.specs.declared.state.Listener.{Listener}
 use Rattle.protocol.specs.declared.outcome.Event.{Event}
 
@@ -61,8 +61,8 @@ addressPending l a = pendingFrom (l .clock) (block a) (l .slots)
 pub record Demand3 (own : List ℕ) (port : ℕ) (k : List ℕ) (calls : List Call) : Type 0 where
   pub pending : pendingNumber (listenerAfter (startOf own port k .listener) calls)
       ≡ pendingOf (journalAfter (freshJournal own port k) (numbered (startOf own port k .listener) calls))
-  -- of every address of the own address's family
+  -- the pending number of each address of the own address's family
   pub addresses : (a : List ℕ) → length a ≡ length own → addressPending (listenerAfter (startOf own port k .listener) calls) a
-      ≡ pendingFor (journalAfter (freshJournal own port k) (numbered (startOf own port k .listener) calls)) a
+      ≡ pendingOfAddress (journalAfter (freshJournal own port k) (numbered (startOf own port k .listener) calls)) a
   pub verdicts : listenerDecisions (startOf own port k .listener) calls
       ≡ journalDecisions (freshJournal own port k) (numbered (startOf own port k .listener) calls)

@@ -61,11 +61,11 @@ abbrev pub pendingOf : Journal → ℕ
 pendingOf j = tally (λ e. pends (j .time) (e .mark)) (j .entries)
 
 -- Of these, the ones from one source address, whatever their ports.
-abbrev pub pendsFor : ℕ → List ℕ → Entry → Bool
-pendsFor t a e = pends t (e .mark) && sameBytes (e .peer .address) a
+abbrev pub pendsOfAddress : ℕ → List ℕ → Entry → Bool
+pendsOfAddress t a e = pends t (e .mark) && sameBytes (e .peer .address) a
 
-abbrev pub pendingFor : Journal → List ℕ → ℕ
-pendingFor j a = tally (pendsFor (j .time) a) (j .entries)
+abbrev pub pendingOfAddress : Journal → List ℕ → ℕ
+pendingOfAddress j a = tally (pendsOfAddress (j .time) a) (j .entries)
 
 -- The settings in force.
 abbrev pub settingsOf : Journal → Settings
@@ -130,7 +130,7 @@ hasRight j src seg =
 
 -- the terms for an early opening: on, below the limit so far, its address below the share so far, a right cookie
 unfoldable pub opensEarly : Journal → List ℕ → List ℕ → Bool
-opensEarly j src seg = settingsOf j .on && (ltb (pendingOf j) (settingsOf j .limit) && (ltb (pendingFor j src) (settingsOf j .share) && hasRight j src seg))
+opensEarly j src seg = settingsOf j .on && (ltb (pendingOf j) (settingsOf j .limit) && (ltb (pendingOfAddress j src) (settingsOf j .share) && hasRight j src seg))
 
 abbrev pub newMark : Bool → Mark
 newMark true = markEarly

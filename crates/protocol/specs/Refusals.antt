@@ -39,7 +39,7 @@ mostEarlyRoom = 1460
 abbrev pub mostHold : ℕ
 mostHold = 65535
 
--- how many early openings of one address may be pending
+-- the least and the most that it may ask for as share: how many early openings of one address may be pending
 abbrev pub leastShare : ℕ
 leastShare = 1
 

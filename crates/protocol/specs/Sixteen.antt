@@ -70,7 +70,8 @@ pub record Sixteen : Type 0 where
   pub row13 : (l : Listener) (t : ℕ) (src seg : List ℕ) (iss out-len : ℕ) → NewOpening l t src seg iss out-len
       → l .settings .limit ≡ 0
       → step l (segment t src seg iss out-len) .event ≡ events.Regular
-  -- pending 1, limit 2, right cookie: early; pending 2. The address is below its share, as it always is where the share is 2 or more
+  -- pending 1, limit 2, right cookie: early; pending 2. The address is below its share: always so where the share is 2 or more, as with the fresh one, since
+  -- an address's number is at most pending (the law `from-some`)
   pub row14 : (l : Listener) (t : ℕ) (src seg : List ℕ) (iss out-len : ℕ) → NewOpening l t src seg iss out-len
       → l .settings .on ≡ true → l .settings .limit ≡ 2 → pendingAt t (l .slots) ≡ 1 → pendingFrom t (block src) (l .slots) < l .settings .share → HasRight l src seg
       → (step l (segment t src seg iss out-len) .event ≡ events.FastOpened (accepts (l .settings) seg))

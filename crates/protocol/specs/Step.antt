@@ -79,7 +79,7 @@ startOf own port k = startedBy own port k (refusal (startChecks own k))
 
 -- cookies are taken and given: Fast Open is on, pending is below the limit, and the address's own below the share
 abbrev pub cookiesEnabled : View → Bool
-cookiesEnabled v = v .settings .on && (v .below && v .within)
+cookiesEnabled v = v .settings .on && (v .below && v .spare)
 
 -- the option of a segment that counts, under the settings in force
 abbrev pub carriedAt : View → List ℕ → Carried

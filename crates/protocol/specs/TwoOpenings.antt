@@ -50,12 +50,13 @@ pub record TwoOpenings (l : Listener) (src : List ℕ) (a b : Arrival) : Type 0 
   -- neither is in the table
   pub first-new : known (view l (a .time) (sender src (a .seg))) ≡ false
   pub second-new : known (view l (a .time) (sender src (b .seg))) ≡ false
-  -- Fast Open is on, at least two of the 64 slots are free, pending + 2 is at most the limit, and that of the address + 2 at most the share
+  -- Fast Open is on, at least two of the 64 slots are free, pending + 2 is at most the limit, and the address's pending + 2 at most the
+  -- share (02, Item 8; with the fresh share the limit says as much)
   pub on : l .settings .on ≡ true
   pub slots : length (l .slots) ≡ slotCount
   pub free : 2 ≤ tally (λ s. not (isLive (a .time) (s .status))) (l .slots)
   pub below : pendingAt (a .time) (l .slots) + 2 ≤ l .settings .limit
-  pub within : pendingFrom (a .time) (block src) (l .slots) + 2 ≤ l .settings .share
+  pub spare : pendingFrom (a .time) (block src) (l .slots) + 2 ≤ l .settings .share
 
 -- the bytes of a payload up to the early room
 abbrev pub upToEarlyRoom : Listener → Arrival → ℕ

@@ -1,5 +1,5 @@
--- Document 01, "Listener", and document 02, Item 8: what a call's checks, event and output depend on: the listener at the call's time and for its peer. They do not depend on the place where a
--- slot stands.
+-- Document 01, "Listener", and document 02, Item 8: what a call's checks, event and output depend on: the listener at the call's time and for its peer. They do
+-- not depend on the place where a slot stands.
 -- Assumes nothing.
 use Prim.Native.Nat.{ℕ}
 use mathlib.Core.List.{List}
@@ -39,7 +39,7 @@ view l t p =
       slot = slotAt l (scanFor l t p .place);
       vacant = ltb (scanFor l t p .free) slotCount;
       below = ltb (scanFor l t p .pending) (settingsAt l t .limit);
-      within = ltb (pendingFrom t (block (p .address)) (l .slots)) (settingsAt l t .share);
+      spare = ltb (pendingFrom t (block (p .address)) (l .slots)) (settingsAt l t .share);
     }
 
 abbrev pub viewOf : Listener → Call → View

@@ -1,4 +1,4 @@
--- The scan of the table, slot by slot. No document has it: it carries `scanOf` to the code.
+-- The scan of the table, slot by slot. No document has it: it carries `scanOf`, and the counts of slots, to the code.
 -- Assumes nothing.
 use Prim.Native.Nat.{ℕ, _+_, _%_, _^_}
 use mathlib.Core.List.{List}

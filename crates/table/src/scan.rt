@@ -26,7 +26,7 @@ pub fn holds_peer(time: u64, b: [u8; 16], port: u16, s: Slot) -> bool
     is_live(time, status)
 }
 
-// Whether the slot counts in the share of the address with this block: it is pending, and of that address. The status comes first; the address is compared whole.
+// Whether the slot counts in the share of the address with this block. The status comes first: an address is compared, whole, only where it is pending.
 pub fn pends_from(time: u64, b: [u8; 16], s: Slot) -> bool
     ensures { λ r. ⌜ r ≡ pendsFrom time b s ⌝ }
 {

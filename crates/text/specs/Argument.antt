@@ -49,7 +49,7 @@ timeAt i s = valueOf (numberIn (wordAt i s) 18446744073709551615)
 abbrev pub portAt : ℕ → List ℕ → Option ℕ
 portAt i s = value16 (number16In (wordAt i s))
 
--- LIMIT, ROOM, HOLD, MSS, OURS, SENT
+-- LIMIT, ROOM, HOLD, MSS, SHARE, OURS, SENT
 abbrev pub numberAt : ℕ → List ℕ → Option ℕ
 numberAt i s = value32 (number32In (wordAt i s))
 

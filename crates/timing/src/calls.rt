@@ -41,9 +41,8 @@ fn add(digest: u64, event: Event, written: usize, out: &[u8; 36]) -> u64 {
 
 // Before the loops
 
-// A listener that is on, with no connection.
-fn empty_listener() -> Listener {
-    let started = start(&data::own(), data::OWN_PORT, &data::key());
+// The listener, on, where an address may have so many pending.
+fn with_share(l: Listener, share: u32) -> Listener {
     let settings = Settings {
         on: true,
         limit: 64,
@@ -51,9 +50,16 @@ fn empty_listener() -> Listener {
         hold: 0,
         mss: 1460,
         codings: Codings::NewOnly,
+        share,
     };
-    let o = set_settings(started.listener, 0, settings);
+    let o = set_settings(l, 0, settings);
     o.listener
+}
+
+// A listener that is on, with no connection.
+fn empty_listener() -> Listener {
+    let started = start(&data::own(), data::OWN_PORT, &data::key());
+    with_share(started.listener, 64)
 }
 
 // The cookie of the peer's address, from the SYN-ACK to a request.
@@ -81,25 +87,30 @@ fn cookie_of_peer(peer: &[u8; 4]) -> [u8; 8] {
     ]
 }
 
-// The listener after one request more.
-fn with_connection(l: Listener, peer: &[u8; 4], port: u16) -> Listener {
-    let mut request = [0u8; 1520];
-    let n = data::put_opening(&mut request, peer, port, &[], &[]);
+// The listener after one opening more, with a cookie or a request for one.
+fn with_connection(l: Listener, peer: &[u8; 4], port: u16, cookie: &[u8]) -> Listener {
+    let mut opening = [0u8; 1520];
+    let n = data::put_opening(&mut opening, peer, port, cookie, &[]);
     let mut out = [0u8; 36];
-    let o = segment(l, 0, peer, data::first(&request, n), ISS, &mut out);
+    let o = segment(l, 0, peer, data::first(&opening, n), ISS, &mut out);
     o.listener
 }
 
-// A listener that has answered so many requests, from the ports 50,000 on. There are 64 slots.
-fn listener_with(peer: &[u8; 4], live: u64) -> Listener {
+// A listener that has answered so many of these, from the ports 50,000 on. There are 64 slots.
+fn listener_after(peer: &[u8; 4], live: u64, cookie: &[u8]) -> Listener {
     let mut l = empty_listener();
     let mut k: u64 = 0;
     while k < live {
-        let next = with_connection(l, peer, (50000 + k % 64) as u16);
+        let next = with_connection(l, peer, (50000 + k % 64) as u16, cookie);
         l = next;
         k += 1;
     }
     l
+}
+
+// So many requests: none of them is pending.
+fn listener_with(peer: &[u8; 4], live: u64) -> Listener {
+    listener_after(peer, live, &[])
 }
 
 // The early opening, at the start of a buffer of a segment's greatest length.
@@ -214,6 +225,15 @@ pub(crate) fn turned(peer: &[u8; 4], count: u64, live: u64, payload: u64) -> u64
     let n = put_early(&mut opening, peer, payload);
     let o = set_key(listener_with(peer, live), 0, &data::next_key());
     open_and_abandon(o.listener, peer, count, data::first(&opening, n))
+}
+
+// The early opening under a share of 8, where so many early ones of another address are pending: from the ninth on the table is gone through for the peer's own.
+pub(crate) fn shared(peer: &[u8; 4], count: u64, live: u64, payload: u64) -> u64 {
+    let mut opening = [0u8; 1520];
+    let n = put_early(&mut opening, peer, payload);
+    let other = data::other_peer(live);
+    let l = listener_after(&other, live, &cookie_of_peer(&other));
+    open_and_abandon(with_share(l, 8), peer, count, data::first(&opening, n))
 }
 
 pub(crate) fn request(peer: &[u8; 4], count: u64, live: u64) -> u64 {

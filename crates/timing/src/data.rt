@@ -55,6 +55,11 @@ pub(crate) fn peer(live: u64) -> [u8; 4] {
     [192, 0, 2, (1 + live / 100 % 2) as u8]
 }
 
+// Another address.
+pub(crate) fn other_peer(live: u64) -> [u8; 4] {
+    [192, 0, 2, (9 + live / 100 % 2) as u8]
+}
+
 // Data, as many bytes of it as the longest segment has: byte i is 7 i + 3 modulo 256.
 pub(crate) fn bytes() -> [u8; 1520] {
     let mut b = [0u8; 1520];

@@ -15,7 +15,7 @@ fn print(text: &[u8]) {
 
 fn print_usage() {
     print(
-        b"usage: timing block|expand|checksum|options|early|turned|request|repeat|completion|refusal|full|unknown COUNT LIVE PAYLOAD\n",
+        b"usage: timing block|expand|checksum|options|early|turned|shared|request|repeat|completion|refusal|full|unknown COUNT LIVE PAYLOAD\n",
     );
 }
 
@@ -44,6 +44,9 @@ fn digest_of(work: &[u8], count: u64, live: u64, payload: u64) -> Digest {
     }
     if is_word(work, b"turned") {
         return Digest::Of(calls::turned(&peer, count, live, payload));
+    }
+    if is_word(work, b"shared") {
+        return Digest::Of(calls::shared(&peer, count, live, payload));
     }
     if is_word(work, b"request") {
         return Digest::Of(calls::request(&peer, count, live));

@@ -35,10 +35,10 @@ abbrev μ-loop : tie.MeasureT-loop
 μ-loop time src seg iss out local h next settings codings b scan₀ i₀ scan i = 64 - i
 
 abbrev Inv-loop2 : tie.InvT-loop2
-Inv-loop2 time src seg iss out local h next settings b i at area remarks allowed end own₀ k₀ own k = CountLoop time b (next .slots) end k own
+Inv-loop2 time src seg iss out local h next settings b i at area remarks allowed end n₀ k₀ n k = CountLoop time b (next .slots) end k n
 
 abbrev μ-loop2 : tie.MeasureT-loop2
-μ-loop2 time src seg iss out local h next settings b i at area remarks allowed end own₀ k₀ own k = end - k
+μ-loop2 time src seg iss out local h next settings b i at area remarks allowed end n₀ k₀ n k = end - k
 
 abbrev Inv-loop3 : tie.InvT-loop3
 Inv-loop3 time src seg iss out h kind next settings b place₀ place = SearchLoop time b (h .source) (next .slots) place
@@ -125,7 +125,7 @@ module _ (c : tie.After-enum-told2 Inv-loop μ-loop Inv-loop2 μ-loop2 Inv-loop3
       free-in-table (a .l) (a .time) (a .src .now) (a .seg .now) (a .iss) (length (a .out .now)) (read (n k) .0) (read (n k) .1) (block-is k) (kind (n k) .kind-of .ensures) (is-one new) (scan-is new) (slot-is new)
       (new .check-opening .ensures) (c .enum-told2 .given .1)
 
--- Its options are read, and its own address's slots are counted
+-- Its options are read, and its source address's pending slots are counted
 module _ (c : tie.After-loop2 Inv-loop μ-loop Inv-loop2 μ-loop2 Inv-loop3 μ-loop3) where
   abbrev at-count : tie.At-loop2 Inv-loop μ-loop Inv-loop2 μ-loop2 Inv-loop3 μ-loop3
   at-count = c .before
@@ -133,7 +133,7 @@ module _ (c : tie.After-loop2 Inv-loop μ-loop Inv-loop2 μ-loop2 Inv-loop3 μ-l
   abbrev to-count : tie.After-slots-to-count Inv-loop μ-loop Inv-loop2 μ-loop2 Inv-loop3 μ-loop3
   to-count = at-count .before
 
-  abbrev allowed : tie.After-option-if-enabled Inv-loop μ-loop Inv-loop2 μ-loop2 Inv-loop3 μ-loop3
+  abbrev allowed : tie.After-option-if Inv-loop μ-loop Inv-loop2 μ-loop2 Inv-loop3 μ-loop3
   allowed = to-count .before
 
   abbrev read-from : tie.After-read-options2 Inv-loop μ-loop Inv-loop2 μ-loop2 Inv-loop3 μ-loop3
@@ -142,12 +142,12 @@ module _ (c : tie.After-loop2 Inv-loop μ-loop Inv-loop2 μ-loop2 Inv-loop3 μ-l
   abbrev offered : tie.After-enum-told2 Inv-loop μ-loop Inv-loop2 μ-loop2 Inv-loop3 μ-loop3
   offered = read-from .before .before
 
-  none-counted : to-count .slots-to-count .result ≡ 0 → at-count .loop2 .own ≡ 0
-  none-counted e = counted-none _ _ _ _ (at-count .loop2 .k) (at-count .loop2 .own) (c .loop2-test .left) (at-count .loop2 .inv) e
+  none-counted : to-count .slots-to-count .result ≡ 0 → at-count .loop2 .from-source ≡ 0
+  none-counted e = counted-none _ _ _ _ (at-count .loop2 .k) (at-count .loop2 .from-source) (c .loop2-test .left) (at-count .loop2 .inv) e
 
   each-counted : to-count .slots-to-count .result ≡ 64
-      → at-count .loop2 .own ≡ pendingFrom (start (n (known (new offered))) .args .time) (blocked (known (new offered)) .block-of .result) (start (n (known (new offered))) .args .l .slots)
-  each-counted e = counted-each _ _ _ _ (at-count .loop2 .k) (at-count .loop2 .own) (c .loop2-test .left) (at-count .loop2 .inv) (full (n (known (new offered)))) e
+      → at-count .loop2 .from-source ≡ pendingFrom (start (n (known (new offered))) .args .time) (blocked (known (new offered)) .block-of .result) (start (n (known (new offered))) .args .l .slots)
+  each-counted e = counted-each _ _ _ _ (at-count .loop2 .k) (at-count .loop2 .from-source) (c .loop2-test .left) (at-count .loop2 .inv) (full (n (known (new offered)))) e
 
 -- Whether an option counts is known
 abbrev count-over : tie.After-is-counted Inv-loop μ-loop Inv-loop2 μ-loop2 Inv-loop3 μ-loop3 → tie.After-loop2 Inv-loop μ-loop Inv-loop2 μ-loop2 Inv-loop3 μ-loop3
@@ -262,8 +262,8 @@ returns-5 c =
     let k = known o in
     let a = start (n k) .args in
     written-over (a .out .now) (opened-plain (a .l) (a .time) (a .src .now) (a .seg .now) (a .iss) (length (a .out .now)) (read (n k) .0) (read (n k) .1) (block-is k) (kind (n k) .kind-of .ensures) (is-one o)
-    (scan-is o) (slot-is o) (o .check-opening .ensures) (told .enum-told2 .given .1) (allowed count .before .cookies-enabled .ensures) (read-from count .before .area-within2 .ensures, read-from count .read-options2 .ensures) (allowed count .option-if-enabled .ensures)
-    (to-count count .slots-to-count .ensures .0) (none-counted count) (each-counted count) (counted .before .option-if-enabled2 .ensures)
+    (scan-is o) (slot-is o) (o .check-opening .ensures) (told .enum-told2 .given .1) (allowed count .before .limit-allows .ensures) (read-from count .before .area-within2 .ensures, read-from count .read-options2 .ensures) (allowed count .option-if .ensures)
+    (to-count count .slots-to-count .ensures .0) (none-counted count) (each-counted count) (counted .before .option-if2 .ensures)
     (sym (counted .is-counted .ensures) ∙ not-true _ (made .before .if3 .taken)) (made .open-plain .ensures) (replicate 8 0)) (wrote .write-from2 .ensures) (c .new-outcome2 .ensures)
 
 mul-new-2 : tie.Need-mul-new-2 Inv-loop μ-loop Inv-loop2 μ-loop2 Inv-loop3 μ-loop3
@@ -284,8 +284,8 @@ returns-6 c =
     let k = known o in
     let a = start (n k) .args in
     written-over (a .out .now) (opened-by-option (a .l) (a .time) (a .src .now) (a .seg .now) (a .iss) (length (a .out .now)) (read (n k) .0) (read (n k) .1) (block-is k) (kind (n k) .kind-of .ensures) (is-one o)
-    (scan-is o) (slot-is o) (o .check-opening .ensures) (told .enum-told2 .given .1) (allowed count .before .cookies-enabled .ensures) (read-from count .before .area-within2 .ensures, read-from count .read-options2 .ensures) (allowed count .option-if-enabled .ensures)
-    (to-count count .slots-to-count .ensures .0) (none-counted count) (each-counted count) (counted .before .option-if-enabled2 .ensures)
+    (scan-is o) (slot-is o) (o .check-opening .ensures) (told .enum-told2 .given .1) (allowed count .before .limit-allows .ensures) (read-from count .before .area-within2 .ensures, read-from count .read-options2 .ensures) (allowed count .option-if .ensures)
+    (to-count count .slots-to-count .ensures .0) (none-counted count) (each-counted count) (counted .before .option-if2 .ensures)
     (sym (counted .is-counted .ensures) ∙ not-false _ (made .before .before .before .if3 .left)) (made .before .payload-after .ensures) (coded .coding-of .ensures) (made .open-by-option .result) (made .open-by-option .ensures)) (wrote .write-from3 .ensures) (c .new-outcome3 .ensures)
 
 loop2-holds : tie.Need-loop2-holds Inv-loop μ-loop Inv-loop2 μ-loop2 Inv-loop3 μ-loop3
@@ -307,7 +307,7 @@ loop2-again : tie.Need-loop2-again Inv-loop μ-loop Inv-loop2 μ-loop2 Inv-loop3
 loop2-again c =
     let at = c .before .before .before .before in
     let told = at .before .before .before .before .before .before .before .before in
-    count-loop-on _ _ _ _ (at .loop2 .k) (at .loop2 .own) _ _ (full (n (known (new told)))) (at .before .slots-to-count .ensures .1) (c .before .before .before .loop2-test .taken) (at .loop2 .inv) (c .before .pends-from .ensures) (c .count-if .ensures)
+    count-loop-on _ _ _ _ (at .loop2 .k) (at .loop2 .from-source) _ _ (full (n (known (new told)))) (at .before .slots-to-count .ensures .1) (c .before .before .before .loop2-test .taken) (at .loop2 .inv) (c .before .pends-from .ensures) (c .count-if .ensures)
 
 loop3-holds : tie.Need-loop3-holds Inv-loop μ-loop Inv-loop2 μ-loop2 Inv-loop3 μ-loop3
 loop3-holds c =

@@ -4,7 +4,8 @@ use mathlib.Core.Path.{_≡_, sym, _∙_}
 use mathlib.Core.Bool.{false}
 use mathlib.Core.Option.{some}
 use lib.ListN.{drop}
-use Rattle.text.specs.Argument.{bothAt, firstCase}
+use Rattle.protocol.specs.Call.{freshShare}
+use Rattle.text.specs.Argument.{numberAt, bothAt, firstCase}
 use Rattle.text.proofs.Arguments.{passed, taken}
 use Rattle.player.specs.Request.{cases, requestIn}
 use Rattle.player.proofs.Reading.{settings-read, start-read, segment-read}
@@ -39,6 +40,12 @@ start4 c = start3 (c .before .before .before)
 past4 : (c : tie.Else4) → requestIn (start4 c .args .line .now) ≡ firstCase (drop 4 (cases (start4 c .args .line .now)))
 past4 c = past3 (c .before .before .before) ∙ passed (drop 3 (cases (start4 c .args .line .now))) (sym (c .before .is-call4 .ensures) ∙ c .if4 .left)
 
+abbrev start5 : tie.Else5 → tie.Start
+start5 c = start4 (c .before .before .before)
+
+past5 : (c : tie.Else5) → requestIn (start5 c .args .line .now) ≡ firstCase (drop 5 (cases (start5 c .args .line .now)))
+past5 c = past4 (c .before .before .before) ∙ passed (drop 4 (cases (start5 c .args .line .now))) (sym (c .before .is-call5 .ensures) ∙ c .if5 .left)
+
 returns : tie.Need-returns
 unfolding requestIn
 returns c =
@@ -57,19 +64,26 @@ returns-2 c =
 returns-3 : tie.Need-returns-3
 returns-3 c =
     let s = start2 (c .before .before .before .before) in
-    settings-read (s .args .line .now) (s .args .a .now) (s .pre .0) (s .args .a .now) (s .args .b .now) (some false) (c .read-settings .ensures)
+    settings-read (s .args .line .now) (s .args .a .now) (s .pre .0) (s .args .a .now) (s .args .b .now) (some false) (some freshShare) (c .read-settings .ensures)
     ∙ sym (past2 (c .before .before .before .before) ∙ taken (drop 2 (cases (s .args .line .now))) (sym (c .before .before .is-call3 .ensures) ∙ c .before .if3 .taken))
 
 returns-4 : tie.Need-returns-4
 returns-4 c =
     let s = start3 (c .before .before .before .before .before) in
-    settings-read (s .args .line .now) (s .args .a .now) (s .pre .0) (s .args .a .now) (s .args .b .now) (bothAt 7 (s .args .line .now)) (rw (c .before .both-at .ensures) at (c .read-settings2 .ensures))
+    settings-read (s .args .line .now) (s .args .a .now) (s .pre .0) (s .args .a .now) (s .args .b .now) (bothAt 7 (s .args .line .now)) (some freshShare) (rw (c .before .both-at .ensures) at (c .read-settings2 .ensures))
     ∙ sym (past3 (c .before .before .before .before .before) ∙ taken (drop 3 (cases (s .args .line .now))) (sym (c .before .before .before .is-call4 .ensures) ∙ c .before .before .if4 .taken))
 
 returns-5 : tie.Need-returns-5
 returns-5 c =
-    let s = start4 (c .before .before .before .before) in
-    c .before .before .read-named .ensures (s .args .b .now) ∙ sym (past4 (c .before .before .before .before))
+    let s = start4 (c .before .before .before .before .before .before) in
+    settings-read (s .args .line .now) (s .args .a .now) (s .pre .0) (s .args .a .now) (s .args .b .now) (bothAt 7 (s .args .line .now)) (numberAt 8 (s .args .line .now))
+    (rw (c .before .before .both-at2 .ensures, c .before .number-at .ensures) at (c .read-settings3 .ensures))
+    ∙ sym (past4 (c .before .before .before .before .before .before) ∙ taken (drop 4 (cases (s .args .line .now))) (sym (c .before .before .before .before .is-call5 .ensures) ∙ c .before .before .before .if5 .taken))
+
+returns-6 : tie.Need-returns-6
+returns-6 c =
+    let s = start5 (c .before .before .before .before) in
+    c .before .before .read-named .ensures (s .args .b .now) ∙ sym (past5 (c .before .before .before .before))
 
 pub read-request-spec : {M : Type 1} → statement M
 read-request-spec =
@@ -79,4 +93,5 @@ read-request-spec =
     returns (λ c. search needs) (λ c κs. search needs) (λ c κs. search needs) (λ c. search needs)
     (λ c. search needs) returns-2 (λ c. search needs) (λ c κs. search needs) (λ c κs. search needs) returns-3
     (λ c. search needs) (λ c κs. search needs) (λ c κs. search needs) (λ c κs. search needs) returns-4
-    (λ c κs. search needs) (λ c. search needs) returns-5)
+    (λ c. search needs) (λ c κs. search needs) (λ c κs. search needs) (λ c κs. search needs) (λ c κs. search needs) returns-5
+    (λ c κs. search needs) (λ c. search needs) returns-6)

@@ -26,13 +26,17 @@ returns-7 : tie.Need-returns-7
 returns-7 c = rw (c .before .before .before .before .before .before .before .before .before .before .before .before .before .before .before .before .before .before .time .given .1, c .before .before .before .before .before .before .before .before .before .before .before .before .before .before .before .on .given .1, c .before .before .before .before .before .before .before .before .before .before .before .before .limit .given .1, c .before .before .before .before .before .before .before .before .before .early-room .given .1, c .before .before .before .before .before .before .hold .given .1, c .before .before .before .mss .given .1, c .enum-told7 .given .1)
 
 returns-8 : tie.Need-returns-8
-returns-8 c = rw (c .before .before .before .before .before .before .before .before .before .before .before .before .before .before .before .before .before .before .before .before .time .given .1, c .before .before .before .before .before .before .before .before .before .before .before .before .before .before .before .before .before .on .given .1, c .before .before .before .before .before .before .before .before .before .before .before .before .before .before .limit .given .1, c .before .before .before .before .before .before .before .before .before .before .before .early-room .given .1, c .before .before .before .before .before .before .before .before .hold .given .1, c .before .before .before .before .before .mss .given .1, c .before .before .both .given .1, c .codings-of .ensures)
+returns-8 c = rw (c .before .before .before .before .before .before .before .before .before .before .before .before .before .before .before .before .before .before .before .before .before .time .given .1, c .before .before .before .before .before .before .before .before .before .before .before .before .before .before .before .before .before .before .on .given .1, c .before .before .before .before .before .before .before .before .before .before .before .before .before .before .before .limit .given .1, c .before .before .before .before .before .before .before .before .before .before .before .before .early-room .given .1, c .before .before .before .before .before .before .before .before .before .hold .given .1, c .before .before .before .before .before .before .mss .given .1, c .before .before .before .both .given .1, c .enum-told8 .given .1)
+
+returns-9 : tie.Need-returns-9
+returns-9 c = rw (c .before .before .before .before .before .before .before .before .before .before .before .before .before .before .before .before .before .before .before .before .before .before .before .time .given .1, c .before .before .before .before .before .before .before .before .before .before .before .before .before .before .before .before .before .before .before .before .on .given .1, c .before .before .before .before .before .before .before .before .before .before .before .before .before .before .before .before .before .limit .given .1, c .before .before .before .before .before .before .before .before .before .before .before .before .before .before .early-room .given .1, c .before .before .before .before .before .before .before .before .before .before .before .hold .given .1, c .before .before .before .before .before .before .before .before .mss .given .1, c .before .before .before .before .before .both .given .1, c .before .before .share .given .1, c .codings-of .ensures)
 
 pub settings-order-spec : {M : Type 1} → statement M
 settings-order-spec =
     tie.close
     (tie.spec
     (λ c. search needs) (λ c. search needs) returns (λ c. search needs) (λ c. search needs) returns-2
-    (λ c. search needs) (λ c. search needs) returns-3 (λ c. search needs) (λ c. search needs)
-    returns-4 (λ c. search needs) (λ c. search needs) returns-5 (λ c. search needs) (λ c. search needs) returns-6
-    (λ c. search needs) (λ c. search needs) returns-7 (λ c κs. search needs) returns-8)
+    (λ c. search needs) (λ c. search needs) returns-3 (λ c. search needs) (λ c. search needs) returns-4
+    (λ c. search needs) (λ c. search needs) returns-5 (λ c. search needs) (λ c. search needs) returns-6
+    (λ c. search needs) (λ c. search needs) returns-7 (λ c. search needs) (λ c. search needs) returns-8
+    (λ c κs. search needs) returns-9)
