@@ -1,7 +1,7 @@
 -- Blocks and lengths of addresses, and bytes copied into an array of zeros. Assumes nothing.
 use Prim.Native.Nat.{ℕ, zero, suc, _-_, _≤_, _<_}
 use mathlib.Core.Path.{_≡_, refl, sym, ap, _∙_}
-use mathlib.Core.Bool.{Bool, true, false, cond, _||_}
+use mathlib.Core.Bool.{Bool, true, false, _||_}
 use mathlib.Core.List.{List, _++_, append-nil}
 use native.Mathlib.Omega.{arith}
 use native.Mathlib.Numerals.{unary-clauses}
@@ -10,7 +10,7 @@ use lib.Dec.{eqb}
 use lib.ListN.{length, take, drop, replicate, drop-of-length-le, length-replicate}
 use lib.Seq.{take-all, length-take-le}
 use Rattle.segment.specs.Checksum.{oneFamily}
-use Rattle.endpoint.specs.Address.{size, isSize, familyOf, isAddress, block}
+use Rattle.endpoint.specs.Address.{size, isSize, isAddress, block}
 use Rattle.endpoint.specs.declared.address.Family.{Family}
 use Rattle.endpoint.specs.declared.address.Family.the-variants.{V4, V6}
 
@@ -30,14 +30,6 @@ zero-block V4 = refl
 zero-block V6 = refl
 
 -- Lengths of addresses
-
--- the family of a length has addresses of that length
-pub size-of-family : (n : ℕ) → isSize n ≡ true → size (familyOf n) ≡ n
-size-of-family n e = go (eqb n 4) refl e
-  where
-    go : (b : Bool) → eqb n 4 ≡ b → b || eqb n 16 ≡ true → size (cond b V4 V6) ≡ n
-    go true k q = sym (eqb-true n 4 k)
-    go false k q = sym (eqb-true n 16 q)
 
 pub size-most : (n : ℕ) → isSize n ≡ true → n ≤ 16
 size-most n e = go (eqb n 4) refl e

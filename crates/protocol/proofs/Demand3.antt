@@ -24,7 +24,7 @@ use Rattle.endpoint.specs.Checks.{isUntimely, timely, addressed}
 use Rattle.endpoint.specs.declared.address.Family.{Family}
 use Rattle.lists.proofs.Bools.{one-test}
 use Rattle.endpoint.proofs.Names.{short}
-use Rattle.endpoint.proofs.Blocks.{zero-block, size-of-family}
+use Rattle.endpoint.proofs.Blocks.{zero-block}
 use Rattle.lists.proofs.Sums.{sum-zero, some-passes, first-passes, none-passes, All, all-set, all-at, all-replicate, sum-le-all}
 use Rattle.endpoint.proofs.Clear.{Passed, every-check}
 use Rattle.protocol.specs.Cookie.{Carried, carriedBy, rightUnder, right}
@@ -46,27 +46,26 @@ use Rattle.protocol.specs.declared.outcome.Event.the-variants as events
 use Rattle.protocol.proofs.Journal.{nameOf, entryFor, entryIn, by-entry, stands, Fits, holdsPeer-stands, Thins, Match, stands-tally, pending-same, from-same, match-add, Settled, settled, turned-on, pending-settled, from-settled, settled-amend}
 use Rattle.protocol.proofs.Table.{not-free}
 use Rattle.protocol.proofs.DoneEvent.{done-number}
-use Rattle.protocol.proofs.Fixed.{after-fixed}
 
 -- The journal beside a listener
 
-record Table (f : Family) (t : ℕ) (slots : List Slot) (es : List Entry) : Type 0 where
-  long : length slots ≡ 64
-  fits : All (Fits f) slots
-  match : Settled f t slots es
+pub record Table (f : Family) (t : ℕ) (slots : List Slot) (es : List Entry) : Type 0 where
+  pub long : length slots ≡ 64
+  pub fits : All (Fits f) slots
+  pub match : Settled f t slots es
 
 -- the listener has round keys, the journal the key
-abbrev Previous : Keys → PreviousKey → Type 0
+abbrev pub Previous : Keys → PreviousKey → Type 0
 Previous k noKey = k .rotated ≡ false
 Previous k (aKey b) = (k .rotated ≡ true) × (k .previous ≡ keyExpansion b)
 
-record Agrees (l : Listener) (j : Journal) : Type 0 where
-  started : l .local .started ≡ true
-  time : j .time ≡ l .clock
-  settings : l .settings ≡ storedSettings (j .settings)
-  present : l .keys .present ≡ keyExpansion (j .present)
-  previous : Previous (l .keys) (j .previous)
-  table : Table (l .local .family) (l .clock) (l .slots) (j .entries)
+pub record Agrees (l : Listener) (j : Journal) : Type 0 where
+  pub started : l .local .started ≡ true
+  pub time : j .time ≡ l .clock
+  pub settings : l .settings ≡ storedSettings (j .settings)
+  pub present : l .keys .present ≡ keyExpansion (j .present)
+  pub previous : Previous (l .keys) (j .previous)
+  pub table : Table (l .local .family) (l .clock) (l .slots) (j .entries)
 
 -- after a call with this event
 record Follows (c : Call) (l : Listener) (e : Event) (j : Journal) (s : Decision) : Type 0 where
@@ -345,6 +344,10 @@ one l j c a (Refused r) e = go (numberOf r) refl
     go zero z = absurd (let w : _≡_ {A = ℕ} 0 1 = cc (numbers.done-is-0 (Refused r) z) in omega arith)
     go (suc n) z = quiet refl a
 
+pub stays : (l : Listener) (j : Journal) (c : Call) → Agrees l j → Agrees (step l c .listener) (feed j c (numberOfEvent (step l c .event)))
+unfolding step
+stays l j c a = one l j c a (callCheck l c) refl .agrees
+
 -- Lists of calls
 all-follow : (l : Listener) (j : Journal) (calls : List Call) → Agrees l j
     → Agrees (listenerAfter l calls) (journalAfter j (numbered l calls)) × (listenerDecisions l calls ≡ journalDecisions j (numbered l calls))
@@ -377,24 +380,24 @@ fresh-agrees own port k = record { started = refl; time = refl; settings = refl;
           match = record { same = λ w. sym (sum-zero (λ s. sum w (entryIn f 0 s)) 64 freeSlot refl); once = λ p. omega arith };
         }
 
--- a start that is done, with an address of a family
-begins : (own : List ℕ) (port : ℕ) (k : List ℕ) → startOf own port k .check ≡ Clear
-    → Agrees (startOf own port k .listener) (freshJournal own port k) × (length own ≡ size (startOf own port k .listener .local .family))
+-- a start that is done
+begins : (own : List ℕ) (port : ℕ) (k : List ℕ) → startOf own port k .check ≡ Clear → Agrees (startOf own port k .listener) (freshJournal own port k)
 unfolding startOf
-begins own port k = go (refusal (startChecks own k)) refl
+begins own port k = go (refusal (startChecks own k))
   where
-    go : (r : Check) → refusal (startChecks own k) ≡ r → startedBy own port k r .check ≡ Clear
-        → Agrees (startedBy own port k r .listener) (freshJournal own port k) × (length own ≡ size (startedBy own port k r .listener .local .family))
-    go Clear c e = (fresh-agrees own port k, sym (size-of-family (length own) (not-false _ (every-check (startChecks own k) c .0))))
-    go (Refused r) c e = absurd (let z : _≡_ {A = ℕ} 0 1 = cc in omega arith)
+    go : (r : Check) → startedBy own port k r .check ≡ Clear → Agrees (startedBy own port k r .listener) (freshJournal own port k)
+    go Clear e = fresh-agrees own port k
+    go (Refused r) e = absurd (let z : _≡_ {A = ℕ} 0 1 = cc in omega arith)
+
+-- and calls after it
+pub agreed : (own : List ℕ) (port : ℕ) (k : List ℕ) (calls : List Call) → startOf own port k .check ≡ Clear
+    → Agrees (listenerAfter (startOf own port k .listener) calls) (journalAfter (freshJournal own port k) (numbered (startOf own port k .listener) calls))
+agreed own port k calls e = all-follow (startOf own port k .listener) (freshJournal own port k) calls (begins own port k e) .0
 
 pub demand3 : (own : List ℕ) (port : ℕ) (k : List ℕ) (calls : List Call) → startOf own port k .check ≡ Clear → Demand3 own port k calls
 demand3 own port k calls e =
-    let l = startOf own port k .listener in
-    let b = begins own port k e in
-    let x = all-follow l (freshJournal own port k) calls (b .0) in
     record {
-      pending = same-pending _ _ (x .0);
-      addresses = λ a local. same-address _ _ (x .0) a (rw (after-fixed l calls .0) (local ∙ b .1));
-      verdicts = x .1;
+      pending = same-pending _ _ (agreed own port k calls e);
+      addresses = same-address _ _ (agreed own port k calls e);
+      verdicts = all-follow (startOf own port k .listener) (freshJournal own port k) calls (begins own port k e) .1;
     }

@@ -16,5 +16,4 @@ pub mod Step
 pub mod Table
 pub mod DoneEvent
 pub mod Journal
-pub mod Fixed
 pub mod Openings

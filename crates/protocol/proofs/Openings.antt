@@ -95,7 +95,7 @@ pub record Admitted (l : Listener) (t : ℕ) : Type 0 where
 pub enabled : (l : Listener) (t : ℕ) (p : Peer) → l .settings .on ≡ true → pendingAt t (l .slots) < l .settings .limit
     → pendingFrom t (block (p .address)) (l .slots) < l .settings .share → cookiesEnabled (view l t p) ≡ true
 enabled l t p on below spare =
-    rw (on, lt-ltb (pendingAt t (l .slots)) (l .settings .limit) below, lt-ltb (pendingFrom t (block (p .address)) (l .slots)) (l .settings .share) spare)
+    ap₂ _&&_ on (ap₂ _&&_ (lt-ltb (pendingAt t (l .slots)) (l .settings .limit) below) (lt-ltb (pendingFrom t (block (p .address)) (l .slots)) (l .settings .share) spare))
 
 -- a new opening is early, and its SYN-ACK has a fresh cookie, where cookies are enabled and by what it carries
 pub early-is : (v : View) (b seg : List ℕ) → isEarly v b seg ≡ cookiesEnabled v && right (v .keys) b (carriedAt v seg)

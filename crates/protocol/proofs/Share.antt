@@ -26,6 +26,7 @@ use Rattle.protocol.specs.Call.{Call, segment, settings, key, abandon, r
 use Rattle.protocol.specs.View.{known, settingsAt, slotAt, scanFor, view, viewOf}
 use Rattle.protocol.specs.Refusals.{kindChecks, checks, callCheck}
 use Rattle.protocol.specs.Step.{startOf, cookiesEnabled, isEarly, accepts, carriedAt, newEvent, openingEvent, segmentEvent, heldUntil, slotAfter, put, segmentAfter, freed, after, outcomeOf, step}
+use Rattle.protocol.specs.Journal.{Journal}
 use Rattle.protocol.specs.Demand3.{listenerAfter, addressPending}
 use Rattle.protocol.specs.TwoOpenings.{Arrival}
 use Rattle.protocol.specs.Share.{Under, AtMost, ShareBound, AtShare}
@@ -37,8 +38,7 @@ use Rattle.protocol.specs.declared.state.Listener.{Listener}
 use Rattle.protocol.proofs.Table.{idle, and-most, from-earlier}
 use Rattle.protocol.proofs.Openings.{slotFor, early-is, new-clear}
 use Rattle.protocol.proofs.Sixteen.{disabled-plain}
-use Rattle.protocol.proofs.Demand3.{on-time}
-use Rattle.protocol.proofs.Fixed.{step-fixed, after-fixed, start-slots}
+use Rattle.protocol.proofs.Demand3.{Agrees, on-time, stays, agreed}
 
 -- One opening
 
@@ -182,15 +182,15 @@ module _ (b : List ℕ) where
         go (Refused r) e = omega arith
 
 -- Lists of calls
-bounded : (share m : ℕ) (l : Listener) (calls : List Call) (a : List ℕ) → length (l .slots) ≡ 64 → Under share l calls → addressPending l a ≤ max share m
+bounded : (share m : ℕ) (l : Listener) (j : Journal) (calls : List Call) (a : List ℕ) → Agrees l j → Under share l calls → addressPending l a ≤ max share m
     → AtMost (max share m) a l calls
-bounded share m l [] a long u h = tt
-bounded share m l (c ∷ cs) a long u h =
-    let first : addressPending (step l c .listener) a ≤ max share m = omega (arith, h, step-most (block a) l long share c (u .0)) in
-    (first, bounded share m (step l c .listener) cs a (step-fixed l c .1 ∙ long) (u .1) first)
+bounded share m l j [] a g u h = tt
+bounded share m l j (c ∷ cs) a g u h =
+    let first : addressPending (step l c .listener) a ≤ max share m = omega (arith, h, step-most (block a) l (g .table .long) share c (u .0)) in
+    (first, bounded share m (step l c .listener) _ cs a (stays l j c g) (u .1) first)
 
-pub share-bound : (own : List ℕ) (port : ℕ) (k : List ℕ) (before : List Call) (share : ℕ) (calls : List Call) → ShareBound own port k before share calls
-share-bound own port k before share calls u a =
-    let first = startOf own port k .listener in
-    let l = listenerAfter first before in
-    bounded share (addressPending l a) l calls a (after-fixed first before .1 ∙ start-slots own port k) u (omega arith)
+pub share-bound : (own : List ℕ) (port : ℕ) (k : List ℕ) (before : List Call) (share : ℕ) (calls : List Call) → startOf own port k .check ≡ Clear
+    → ShareBound own port k before share calls
+share-bound own port k before share calls e u a =
+    let l = listenerAfter (startOf own port k .listener) before in
+    bounded share (addressPending l a) l _ calls a (agreed own port k before e) u (omega arith)

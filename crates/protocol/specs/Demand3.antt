@@ -5,7 +5,7 @@ use Prim.Native.Nat.{ℕ}
 use mathlib.Core.Path.{_≡_}
 use mathlib.Core.List.{List, [], _∷_}
 use lib.ListN.{length}
-use Rattle.endpoint.specs.Address.{block}
+use Rattle.endpoint.specs.Address.{size, block}
 use Rattle.protocol.specs.Table.{pendingFrom}
 use Rattle.protocol.specs.Call.{Call, segment, settings, key, abandon, resend, close, numberOfEvent, verdictOf, acceptedOf, acceptedPart}
 use Rattle.protocol.specs.Step.{startOf, step, pendingNumber}
@@ -61,8 +61,9 @@ addressPending l a = pendingFrom (l .clock) (block a) (l .slots)
 pub record Demand3 (own : List ℕ) (port : ℕ) (k : List ℕ) (calls : List Call) : Type 0 where
   pub pending : pendingNumber (listenerAfter (startOf own port k .listener) calls)
       ≡ pendingOf (journalAfter (freshJournal own port k) (numbered (startOf own port k .listener) calls))
-  -- the pending number of each address of the own address's family
-  pub addresses : (a : List ℕ) → length a ≡ length own → addressPending (listenerAfter (startOf own port k .listener) calls) a
+  -- the pending number of each address of the listener's family
+  pub addresses : (a : List ℕ) → length a ≡ size (listenerAfter (startOf own port k .listener) calls .local .family)
+      → addressPending (listenerAfter (startOf own port k .listener) calls) a
       ≡ pendingOfAddress (journalAfter (freshJournal own port k) (numbered (startOf own port k .listener) calls)) a
   pub verdicts : listenerDecisions (startOf own port k .listener) calls
       ≡ journalDecisions (freshJournal own port k) (numbered (startOf own port k .listener) calls)
