@@ -49,6 +49,16 @@ module _ (t : ℕ) (b : List ℕ) (port : ℕ) (s : Slot) where
   unfolding holdsPeer
   live e = rw e
 
+-- A slot counts in the share of an address, by whether it is pending
+module _ (t : ℕ) (b : List ℕ) (s : Slot) where
+  pub not-counted : isPending t (s .status) ≡ false → pendsFrom t b s ≡ false
+  unfolding pendsFrom
+  not-counted e = rw e
+
+  pub by-address : isPending t (s .status) ≡ true → pendsFrom t b s ≡ sameBytes (s .addr) b
+  unfolding pendsFrom
+  by-address e = rw e
+
 -- Tests, as numbers
 pub and-most : (a b c : Bool) → bit a ≤ bit b → bit (a && c) ≤ bit (b && c)
 and-most true true c h = omega arith
