@@ -105,23 +105,24 @@ module _ (v : View) where
   pub opening-checks : (h : Header) → openingChecks (v .slot) (v .vacant) h ≡ kindChecks v h Syn
   opening-checks h = refl
 
-  -- The option is allowed by the settings and pending, and then by the share of the address: `own` of its own are counted, in no slot or in all, where `from` are there.
+  -- The option is allowed by the settings and pending, and then by the share of the address: `seen` of it are counted, in no slot or in all,
+  -- where `from` are there.
   module _ {pending from : ℕ} (below : v .below ≡ ltb pending (v .settings .limit)) (spare : v .spare ≡ ltb from (v .settings .share)) (some : from ≤ pending) where
-    pub by-share : (own : ℕ) (read allowed : FastOpenOption) → allowed ≡ optionIf (limitAllows (v .settings) pending) read
-        → (slotsToCount (v .settings .share) pending allowed ≡ 0 → own ≡ 0) → (slotsToCount (v .settings .share) pending allowed ≡ 64 → own ≡ from)
-        → optionIf (ltb own (v .settings .share)) allowed ≡ optionIf (cookiesEnabled v) read
-    by-share own read allowed ea none all =
+    pub by-share : (seen : ℕ) (read allowed : FastOpenOption) → allowed ≡ optionIf (limitAllows (v .settings) pending) read
+        → (slotsToCount (v .settings .share) pending allowed ≡ 0 → seen ≡ 0) → (slotsToCount (v .settings .share) pending allowed ≡ 64 → seen ≡ from)
+        → optionIf (ltb seen (v .settings .share)) allowed ≡ optionIf (cookiesEnabled v) read
+    by-share seen read allowed ea none all =
         settled (ltb pending (v .settings .share)) refl (isCounted allowed) refl
         ∙ (ap (optionIf (ltb from (v .settings .share))) ea
         ∙ rw (below, spare) (one-after-other (v .settings .on) (ltb pending (v .settings .limit)) (ltb from (v .settings .share)) read))
       where
         settled : (few : Bool) → ltb pending (v .settings .share) ≡ few → (counted : Bool) → isCounted allowed ≡ counted
-            → optionIf (ltb own (v .settings .share)) allowed ≡ optionIf (ltb from (v .settings .share)) allowed
+            → optionIf (ltb seen (v .settings .share)) allowed ≡ optionIf (ltb from (v .settings .share)) allowed
         settled true e counted q =
             let h = ltb-true pending (v .settings .share) e in
-            rw (lt-ltb own (v .settings .share) (omega (arith, none (rw e))), lt-ltb from (v .settings .share) (omega (arith, some)))
+            rw (lt-ltb seen (v .settings .share) (omega (arith, none (rw e))), lt-ltb from (v .settings .share) (omega (arith, some)))
         settled false e true q = rw (all (rw (e, q)))
-        settled false e false q = rw (uncounted allowed q) (absent (ltb own (v .settings .share)) ∙ sym (absent (ltb from (v .settings .share))))
+        settled false e false q = rw (uncounted allowed q) (absent (ltb seen (v .settings .share)) ∙ sym (absent (ltb from (v .settings .share))))
 
   -- its slot, and whether a fresh cookie goes with its SYN-ACK
   pub new-slot : (end : ℕ) (b : List ℕ) (h : Header) (iss : ℕ) (early : Bool) (n : ℕ)

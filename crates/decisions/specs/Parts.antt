@@ -65,7 +65,7 @@ slotsToCount share pending fast = cond (ltb pending share) 0 (cond (isCounted fa
 
 -- an option as it was read, or none where it is not allowed
 abbrev pub optionIf : Bool → FastOpenOption → FastOpenOption
-optionIf enabled fast = cond enabled fast Absent
+optionIf allowed fast = cond allowed fast Absent
 
 -- a fresh cookie goes with the SYN-ACK to an option
 abbrev pub isFreshFor : Keys → List ℕ → Carried → Bool

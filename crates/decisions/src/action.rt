@@ -76,10 +76,10 @@ pub fn slots_to_count(share: u32, pending: u32, fast: FastOpenOption) -> usize
 }
 
 // An option as it was read, or none where it is not allowed.
-pub fn option_if(enabled: bool, fast: FastOpenOption) -> FastOpenOption
-    ensures { λ r. ⌜ r ≡ optionIf enabled fast ⌝ }
+pub fn option_if(allowed: bool, fast: FastOpenOption) -> FastOpenOption
+    ensures { λ r. ⌜ r ≡ optionIf allowed fast ⌝ }
 {
-    if enabled {
+    if allowed {
         return fast;
     }
     FastOpenOption::Absent

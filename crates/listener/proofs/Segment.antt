@@ -136,12 +136,12 @@ module _ (l : Listener) (t : ℕ) (src seg : List ℕ) (iss out-len : ℕ) (firs
             ltb-true (scan .free) 64 (rw (was .1) at some)
 
         -- the option is allowed by the settings and pending, then by what was counted of the address
-        module _ {enabled : Bool} {area : List ℕ} {report : Report} {allowed fast : FastOpenOption} {end own : ℕ} (ee : enabled ≡ limitAllows (l .settings) (scan .pending))
+        module _ {enabled : Bool} {area : List ℕ} {report : Report} {allowed fast : FastOpenOption} {end seen : ℕ} (ee : enabled ≡ limitAllows (l .settings) (scan .pending))
             (er : Read area report) (ea : allowed ≡ optionIf enabled (report .options .fast)) (en : end ≡ slotsToCount (l .settings .share) (scan .pending) allowed)
-            (none : end ≡ 0 → own ≡ 0) (each : end ≡ 64 → own ≡ pendingFrom t b (l .slots)) (eo : fast ≡ optionIf (ltb own (l .settings .share)) allowed) where
+            (none : end ≡ 0 → seen ≡ 0) (each : end ≡ 64 → seen ≡ pendingFrom t b (l .slots)) (eo : fast ≡ optionIf (ltb seen (l .settings .share)) allowed) where
           fast-as : fast ≡ optionIf (cookiesEnabled v) (readOptions (l .settings .codings) (optionArea seg) .fast)
           fast-as =
-              eo ∙ (by-share v {pending = scan .pending} {from = pendingFrom t (block src) (l .slots)} (rw scan-is) refl (rw scan-is (from-some t (block src) (l .slots))) own (report .options .fast) allowed
+              eo ∙ (by-share v {pending = scan .pending} {from = pendingFrom t (block src) (l .slots)} (rw scan-is) refl (rw scan-is (from-some t (block src) (l .slots))) seen (report .options .fast) allowed
               (rw ee at ea) (λ z. none (en ∙ z)) (λ z. rw eb at (each (en ∙ z))) ∙ rw (report-as er) refl)
 
           -- a new connection, early or not, with its slot and whether a fresh cookie goes with its SYN-ACK
