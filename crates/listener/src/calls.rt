@@ -208,6 +208,8 @@ pub fn segment(l: Listener, time: u64, src: &[u8], seg: &[u8], iss: u32, out: &m
                 return refused(l, Refusal::Flags);
             }
             let mut next = l;
+            // Read again, from the copy: else the compiler goes back to `l` for it in the scan's loop, slot by slot.
+            let local = next.local;
             let settings = next.settings;
             let codings = settings.codings;
             let b = block_of(src);

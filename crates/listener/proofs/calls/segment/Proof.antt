@@ -29,16 +29,16 @@ use Rattle.listener.proofs.calls.segment.Statement.{statement}
 use Rattle.listener.proofs.calls.segment.Tie as tie
 
 abbrev Inv-loop : tie.InvT-loop
-Inv-loop time src seg iss out local h next settings codings b scan₀ i₀ scan i = ScanLoop time b (h .source) (next .slots) i scan
+Inv-loop time src seg iss out h next local settings codings b scan₀ i₀ scan i = ScanLoop time b (h .source) (next .slots) i scan
 
 abbrev μ-loop : tie.MeasureT-loop
-μ-loop time src seg iss out local h next settings codings b scan₀ i₀ scan i = 64 - i
+μ-loop time src seg iss out h next local settings codings b scan₀ i₀ scan i = 64 - i
 
 abbrev Inv-loop2 : tie.InvT-loop2
-Inv-loop2 time src seg iss out local h next settings b i at area remarks allowed end n₀ k₀ n k = CountLoop time b (next .slots) end k n
+Inv-loop2 time src seg iss out h next local settings b i at area remarks allowed end n₀ k₀ n k = CountLoop time b (next .slots) end k n
 
 abbrev μ-loop2 : tie.MeasureT-loop2
-μ-loop2 time src seg iss out local h next settings b i at area remarks allowed end n₀ k₀ n k = end - k
+μ-loop2 time src seg iss out h next local settings b i at area remarks allowed end n₀ k₀ n k = end - k
 
 abbrev Inv-loop3 : tie.InvT-loop3
 Inv-loop3 time src seg iss out h kind next settings b place₀ place = SearchLoop time b (h .source) (next .slots) place
@@ -83,7 +83,7 @@ module _ (c : tie.After-is-opening Inv-loop μ-loop Inv-loop2 μ-loop2 Inv-loop3
   blocked = c .before
 
   abbrev n : tie.After-has-kind Inv-loop μ-loop Inv-loop2 μ-loop2 Inv-loop3 μ-loop3
-  n = blocked .before .before .before
+  n = blocked .before .before .before .before
 
   block-is : blocked .block-of .result ≡ block (start n .args .src .now)
   block-is =
