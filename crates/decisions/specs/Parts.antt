@@ -58,8 +58,8 @@ openingCheck Clear false = openings.Repeat
 abbrev pub limitAllows : StoredSettings → ℕ → Bool
 limitAllows g pending = g .on && ltb pending (g .limit)
 
--- how many slots are looked at to count the pending of an opening's source address: none where that number, at most pending, is below the share anyway, or
--- where no option counts; else all
+-- how many slots are looked at to count the pending of an opening's source address: none where pending, and so that number, is below the share, or where no
+-- option counts; else all
 abbrev pub slotsToCount : ℕ → ℕ → FastOpenOption → ℕ
 slotsToCount share pending fast = cond (ltb pending share) 0 (cond (isCounted fast) slotCount 0)
 

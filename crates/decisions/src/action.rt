@@ -61,8 +61,8 @@ pub fn limit_allows(g: StoredSettings, pending: u32) -> bool
     if g.on { below } else { false }
 }
 
-// How many slots are looked at to count the pending of an opening's source address: none where that number, at most pending, is below the share anyway, or where
-// no option counts; else all.
+// How many slots are looked at to count the pending of an opening's source address: none where pending, and so that number, is below the share, or where no
+// option counts; else all.
 pub fn slots_to_count(share: u32, pending: u32, fast: FastOpenOption) -> usize
     ensures { λ r. ⌜ (r ≡ slotsToCount share pending fast) × (r ≤ slotCount) ⌝ }
 {

@@ -30,7 +30,7 @@ AtMost most a l [] = Unit {0}
 AtMost most a l (c ∷ cs) = (addressPending (step l c .listener) a ≤ most) × AtMost most a (step l c .listener) cs
 
 -- For a start with these arguments, any calls, and any calls after them under one share: no address passes the larger of that share and its number before
--- them, which is the larger one after a lowered share. (That a settings call leaves what is pending as it is, is demand 3's `addresses`.)
+-- them, which may be the larger after a lowered share. (That a settings call changes nothing that is pending is in demand 3's `addresses`.)
 abbrev pub ShareBound : List ℕ → ℕ → List ℕ → List Call → ℕ → List Call → Type 0
 ShareBound own port k before share calls =
     let l = listenerAfter (startOf own port k .listener) before in

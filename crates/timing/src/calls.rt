@@ -252,7 +252,7 @@ pub(crate) fn turned(peer: &[u8; 4], count: u64, live: u64, payload: u64) -> u64
     open_and_abandon(o.listener, peer, count, data::first(&opening, n))
 }
 
-// The early opening under a share of 8, where so many early ones of another address are pending: from the ninth on the table is gone through for the peer's own.
+// The early opening under a share of 8, where so many early ones of another address are pending: from eight on the table is gone through for the peer's own.
 pub(crate) fn shared(peer: &[u8; 4], count: u64, live: u64, payload: u64) -> u64 {
     let mut opening = [0u8; 1520];
     let n = put_early(&mut opening, peer, payload);
