@@ -132,7 +132,7 @@ kept-later t t′ h p (markHeld end) = go (ltb t end) (ltb t′ end) refl refl
 
 -- the pending of the names that pass a test: an entry that is kept counts as before
 module _ (t : ℕ) (of : Peer → Bool) where
-  abbrev pub pendsOf : Entry → Bool
+  abbrev pendsOf : Entry → Bool
   pendsOf e = pends t (e .mark) && of (e .peer)
 
   kept-pends : (p : Peer) (k : Mark) → tally pendsOf (keptMark t p k) ≡ bit (pends t k && of p)
@@ -153,15 +153,14 @@ module _ (t : ℕ) (of : Peer → Bool) where
   entry-pends p Established = kept-pends p markOpen
 
   -- what has ended does not pend
-  pub of-settled : (es : List Entry) → tally pendsOf (amend (kept t) es) ≡ tally pendsOf es
+  of-settled : (es : List Entry) → tally pendsOf (amend (kept t) es) ≡ tally pendsOf es
   of-settled es = sum-amend _ (kept t) es ∙ sum-ext _ _ (λ e. kept-pends (e .peer) (e .mark)) es
 
 -- of every name
-any : Peer → Bool
+abbrev any : Peer → Bool
 any p = true
 
 any-pends : (t : ℕ) (es : List Entry) → tally (pendsOf t any) es ≡ tally (λ e. pends t (e .mark)) es
-unfolding any
 any-pends t es = sum-ext _ _ (λ e. ap bit (and-true (pends t (e .mark)))) es
 
 -- The slots and the entries at a time
@@ -182,7 +181,6 @@ module _ {f : Family} {t : ℕ} {slots : List Slot} {es : List Entry} (m : Match
   of-same of = m .same (λ e. bit (pendsOf t of e)) ∙ sum-ext _ _ (λ s. entry-pends t of (nameOf f s) (s .status)) slots
 
   pub pending-same : tally (λ e. pends t (e .mark)) es ≡ pendingAt t slots
-  unfolding any
   pending-same = sym (any-pends t es) ∙ (of-same any ∙ sum-ext _ _ (λ s. ap bit (and-true (isPending t (s .status)))) slots)
 
   pub from-same : (a : List ℕ) → length a ≡ size f → All (Fits f) slots → tally (pendsOfAddress t a) es ≡ pendingFrom t (block a) slots

@@ -91,7 +91,7 @@ pub record Admitted (l : Listener) (t : ℕ) : Type 0 where
   pub started : l .local .started ≡ true
   pub place : freePlace t (l .slots) < 64
 
--- Fast Open is on, pending is below the limit, and that of the address below the share
+-- cookies are enabled where Fast Open is on, pending below the limit, and the address's below the share
 pub enabled : (l : Listener) (t : ℕ) (p : Peer) → l .settings .on ≡ true → pendingAt t (l .slots) < l .settings .limit
     → pendingFrom t (block (p .address)) (l .slots) < l .settings .share → cookiesEnabled (view l t p) ≡ true
 enabled l t p on below spare =
@@ -110,7 +110,7 @@ fresh-is v b seg = refl
 pub wrong-plain : (v : View) (b seg : List ℕ) → right (v .keys) b (carriedAt v seg) ≡ false → isEarly v b seg ≡ false
 wrong-plain v b seg w = early-is v b seg ∙ rw w (and-false (cookiesEnabled v))
 
--- where cookies are enabled it is early with a right cookie, and gets a cookie where an option counts and has none
+-- where cookies are enabled it is early with a right cookie, and gets a fresh one where an option counts without a right one
 pub is-early : (v : View) (b seg : List ℕ) → cookiesEnabled v ≡ true → right (v .keys) b (carriedAt v seg) ≡ true → isEarly v b seg ≡ true
 is-early v b seg e r = early-is v b seg ∙ ap₂ _&&_ e r
 

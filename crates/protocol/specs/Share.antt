@@ -29,7 +29,7 @@ abbrev pub AtMost : ℕ → List ℕ → Listener → List Call → Type 0
 AtMost most a l [] = Unit {0}
 AtMost most a l (c ∷ cs) = (addressPending (step l c .listener) a ≤ most) × AtMost most a (step l c .listener) cs
 
--- For a start with these arguments, any calls, and any calls after them under one share: no address passes the larger of that share and its number before
+-- For a done start with these arguments, any calls, and any calls after them under one share: no address passes the larger of that share and its number before
 -- them, which may be the larger after a lowered share. (That a settings call changes nothing that is pending is in demand 3's `addresses`.)
 abbrev pub ShareBound : List ℕ → ℕ → List ℕ → List Call → ℕ → List Call → Type 0
 ShareBound own port k before share calls =

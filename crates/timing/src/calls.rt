@@ -92,27 +92,6 @@ fn live_port(k: u64) -> u16 {
     (50000 + k % 64) as u16
 }
 
-// The listener after one request more.
-fn with_connection(l: Listener, peer: &[u8; 4], port: u16) -> Listener {
-    let mut request = [0u8; 1520];
-    let n = data::put_opening(&mut request, peer, port, &[], &[]);
-    let mut out = [0u8; 36];
-    let o = segment(l, 0, peer, data::first(&request, n), ISS, &mut out);
-    o.listener
-}
-
-// A listener that has answered so many requests, from the ports 50,000 on: none is pending.
-fn listener_with(peer: &[u8; 4], live: u64) -> Listener {
-    let mut l = empty_listener();
-    let mut k: u64 = 0;
-    while k < live {
-        let next = with_connection(l, peer, live_port(k));
-        l = next;
-        k += 1;
-    }
-    l
-}
-
 // The early opening from a port, at the start of a buffer of a segment's greatest length.
 fn put_early_from(out: &mut [u8; 1520], peer: &[u8; 4], port: u16, payload: u64) -> usize {
     let bytes = data::bytes();
@@ -129,25 +108,37 @@ fn put_early(out: &mut [u8; 1520], peer: &[u8; 4], payload: u64) -> usize {
     put_early_from(out, peer, data::PEER_PORT, payload)
 }
 
-// The listener after one early opening more, without data.
-fn with_early(l: Listener, peer: &[u8; 4], port: u16) -> Listener {
+// An opening without data: with the cookie, or a request for one.
+fn put_live(out: &mut [u8; 1520], peer: &[u8; 4], port: u16, early: bool) -> usize {
+    if early {
+        return put_early_from(out, peer, port, 0);
+    }
+    data::put_opening(out, peer, port, &[], &[])
+}
+
+// The listener after one of these more.
+fn with_connection(l: Listener, peer: &[u8; 4], port: u16, early: bool) -> Listener {
     let mut opening = [0u8; 1520];
-    let n = put_early_from(&mut opening, peer, port, 0);
+    let n = put_live(&mut opening, peer, port, early);
     let mut out = [0u8; 36];
     let o = segment(l, 0, peer, data::first(&opening, n), ISS, &mut out);
     o.listener
 }
 
-// A listener that has answered so many of these, from the same ports: all are pending.
-fn crowded_listener(peer: &[u8; 4], live: u64) -> Listener {
+// A listener that has answered so many of them, from the ports 50,000 on: early ones are pending, requests are not.
+fn listener_after(peer: &[u8; 4], live: u64, early: bool) -> Listener {
     let mut l = empty_listener();
     let mut k: u64 = 0;
     while k < live {
-        let next = with_early(l, peer, live_port(k));
+        let next = with_connection(l, peer, live_port(k), early);
         l = next;
         k += 1;
     }
     l
+}
+
+fn listener_with(peer: &[u8; 4], live: u64) -> Listener {
+    listener_after(peer, live, false)
 }
 
 // The loops, as any user of the library writes them: the listener of an outcome goes into the next call.
@@ -256,7 +247,7 @@ pub(crate) fn turned(peer: &[u8; 4], count: u64, live: u64, payload: u64) -> u64
 pub(crate) fn shared(peer: &[u8; 4], count: u64, live: u64, payload: u64) -> u64 {
     let mut opening = [0u8; 1520];
     let n = put_early(&mut opening, peer, payload);
-    let l = crowded_listener(&data::other_peer(live), live);
+    let l = listener_after(&data::other_peer(live), live, true);
     open_and_abandon(with_share(l, 8), peer, count, data::first(&opening, n))
 }
 
