@@ -7,7 +7,7 @@ use native.Mathlib.Omega.{arith}
 use Rattle.segment.specs.Remarks.{noRemarks}
 use Rattle.segment.specs.Refusal.{applies, refusal}
 use Rattle.segment.specs.declared.refusal.Refusal.{Refusal}
-use Rattle.segment.specs.declared.refusal.Refusal.the-variants.{NotStarted}
+use Rattle.segment.specs.declared.refusal.Refusal.the-variants.{NotStarted, CutRecord, BadCapture}
 use Rattle.segment.specs.declared.refusal.Check.{Check}
 use Rattle.segment.specs.declared.refusal.Check.the-variants.{Clear, Refused}
 use Rattle.segment.proofs.NumberOf.{positive}
@@ -23,12 +23,19 @@ never-applies m (connect t own server o offered out-len) e = rw e
 never-applies m (answer t own server a seg g) e = rw e
 never-applies m (failed t server port) e = rw e
 
+-- 14 and 15 are of captures: no call of the client has them
+of-captures : (m : Memory) (c : Call) → (applies (checks m c) BadCapture ≡ false) × (applies (checks m c) CutRecord ≡ false)
+of-captures m (connect t own server o offered out-len) = (refl, refl)
+of-captures m (answer t own server a seg g) = (refl, refl)
+of-captures m (failed t server port) = (refl, refl)
+
 -- every call on a memory that was never started is refused 13
 pub never-started : (m : Memory) (c : Call) → m .started ≡ false → (step m c .event ≡ events.Refused NotStarted) × (step m c .memory ≡ m)
 unfolding step callCheck
 never-started m c e =
+    let none = of-captures m c in
     let first = never-applies m c e in
-    (rw first, rw first)
+    (rw (none .0, none .1, first), rw (none .0, none .1, first))
 
 -- and such is the memory of a start that is refused
 pub refused-start : (n : ℕ) (r : Refusal) → startOf n .check ≡ Refused r → startOf n .memory .started ≡ false

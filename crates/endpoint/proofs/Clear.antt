@@ -5,7 +5,7 @@ use mathlib.Core.List.{[], _∷_}
 use borrow.Author.Tests.{eq-eqb}
 use Rattle.segment.specs.Refusal.{numberOf, order, Checks, same, applies, refusal}
 use Rattle.segment.specs.declared.refusal.Refusal.{Refusal}
-use Rattle.segment.specs.declared.refusal.Refusal.the-variants.{Format, Address, Checksum, Port, Time, Flags, NameInUse, TableFull, NoConnection, Sequence, Output, Range, NotStarted}
+use Rattle.segment.specs.declared.refusal.Refusal.the-variants.{Format, Address, Checksum, Port, Time, Flags, NameInUse, TableFull, NoConnection, Sequence, Output, Range, NotStarted, CutRecord, BadCapture}
 use Rattle.segment.specs.declared.refusal.Check.the-variants.{Clear}
 use Rattle.lists.proofs.Bools.{or-false}
 use Rattle.segment.proofs.NumberOf.{None, none-applies}
@@ -13,19 +13,21 @@ use Rattle.lists.proofs.Sums.{All}
 
 -- every refusal has a place in the order
 ordered : (cs : Checks) → None order cs → (r : Refusal) → applies cs r ≡ false
-ordered cs n NotStarted = n .0
-ordered cs n Time = n .1 .0
-ordered cs n Address = n .1 .1 .0
-ordered cs n Output = n .1 .1 .1 .0
-ordered cs n Format = n .1 .1 .1 .1 .0
-ordered cs n Checksum = n .1 .1 .1 .1 .1 .0
-ordered cs n Port = n .1 .1 .1 .1 .1 .1 .0
-ordered cs n Flags = n .1 .1 .1 .1 .1 .1 .1 .0
-ordered cs n Range = n .1 .1 .1 .1 .1 .1 .1 .1 .0
-ordered cs n NameInUse = n .1 .1 .1 .1 .1 .1 .1 .1 .1 .0
-ordered cs n NoConnection = n .1 .1 .1 .1 .1 .1 .1 .1 .1 .1 .0
-ordered cs n TableFull = n .1 .1 .1 .1 .1 .1 .1 .1 .1 .1 .1 .0
-ordered cs n Sequence = n .1 .1 .1 .1 .1 .1 .1 .1 .1 .1 .1 .1 .0
+ordered cs n BadCapture = n .0
+ordered cs n CutRecord = n .1 .0
+ordered cs n NotStarted = n .1 .1 .0
+ordered cs n Time = n .1 .1 .1 .0
+ordered cs n Address = n .1 .1 .1 .1 .0
+ordered cs n Output = n .1 .1 .1 .1 .1 .0
+ordered cs n Format = n .1 .1 .1 .1 .1 .1 .0
+ordered cs n Checksum = n .1 .1 .1 .1 .1 .1 .1 .0
+ordered cs n Port = n .1 .1 .1 .1 .1 .1 .1 .1 .0
+ordered cs n Flags = n .1 .1 .1 .1 .1 .1 .1 .1 .1 .0
+ordered cs n Range = n .1 .1 .1 .1 .1 .1 .1 .1 .1 .1 .0
+ordered cs n NameInUse = n .1 .1 .1 .1 .1 .1 .1 .1 .1 .1 .1 .0
+ordered cs n NoConnection = n .1 .1 .1 .1 .1 .1 .1 .1 .1 .1 .1 .1 .0
+ordered cs n TableFull = n .1 .1 .1 .1 .1 .1 .1 .1 .1 .1 .1 .1 .1 .0
+ordered cs n Sequence = n .1 .1 .1 .1 .1 .1 .1 .1 .1 .1 .1 .1 .1 .1 .0
 
 abbrev pub Passed : Checks → Type 0
 Passed cs = All (λ c. c .1 ≡ false) cs

@@ -8,9 +8,12 @@ use Rattle.segment.specs.Header.{fieldsOf, kindOf}
 use Rattle.segment.specs.Remarks.{noRemarks}
 use Rattle.segment.specs.Refusal.{applies, refusal}
 use Rattle.segment.specs.declared.refusal.Refusal.{Refusal}
-use Rattle.segment.specs.declared.refusal.Refusal.the-variants.{NotStarted}
+use Rattle.segment.specs.declared.refusal.Refusal.the-variants.{NotStarted, CutRecord, BadCapture}
 use Rattle.segment.specs.declared.refusal.Check.{Check}
 use Rattle.segment.specs.declared.refusal.Check.the-variants.{Clear, Refused}
+use Rattle.segment.specs.declared.header.Header.{Header}
+use Rattle.segment.specs.declared.header.Kind.{Kind}
+use Rattle.segment.specs.declared.header.Kind.the-variants.{Syn, Rst, Ack, Other}
 use Rattle.segment.proofs.NumberOf.{done-is-0}
 use Rattle.protocol.specs.Call.{Call, segment, settings, key, abandon, resend, close, numberOfEvent}
 use Rattle.protocol.specs.View.{viewOf}
@@ -32,12 +35,28 @@ never-applies v (abandon t a p) e = rw e
 never-applies v (resend t a p out-len) e = rw e
 never-applies v (close t a p) e = rw e
 
+-- 14 and 15 are of captures: no call of the listener has them
+of-captures : (v : View) (c : Call) → (applies (checks v c) BadCapture ≡ false) × (applies (checks v c) CutRecord ≡ false)
+of-captures v (segment t src seg iss out-len) = go (fieldsOf seg) (kindOf (fieldsOf seg .flags))
+  where
+    go : (h : Header) (k : Kind) → (applies (kindChecks v h k) BadCapture ≡ false) × (applies (kindChecks v h k) CutRecord ≡ false)
+    go h Syn = (refl, refl)
+    go h Ack = (refl, refl)
+    go h Rst = (refl, refl)
+    go h Other = (refl, refl)
+of-captures v (settings t g) = (refl, refl)
+of-captures v (key t k) = (refl, refl)
+of-captures v (abandon t a p) = (refl, refl)
+of-captures v (resend t a p out-len) = (refl, refl)
+of-captures v (close t a p) = (refl, refl)
+
 -- every call on a listener that was never started is refused 13
 pub never-started : (l : Listener) (c : Call) → l .local .started ≡ false → (step l c .event ≡ events.Refused NotStarted) × (step l c .listener ≡ l)
 unfolding step callCheck
 never-started l c e =
+    let none = of-captures (viewOf l c) c in
     let first = never-applies (viewOf l c) c e in
-    (rw first, rw first)
+    (rw (none .0, none .1, first), rw (none .0, none .1, first))
 
 -- and such is the listener of a start that is refused
 pub refused-start : (own : List ℕ) (port : ℕ) (k : List ℕ) (r : Refusal) → startOf own port k .check ≡ Refused r

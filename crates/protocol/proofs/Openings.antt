@@ -140,8 +140,8 @@ module _ (l : Listener) (t : ℕ) (src seg : List ℕ) (iss out-len : ℕ) (syn 
   clear-new e =
       let n = none-applies order (newChecks l t src seg out-len) (sym checked-new ∙ e) in
       record {
-        started = not-false _ (n .0);
-        place = ltb-true _ _ (not-false _ (n .1 .1 .1 .1 .1 .1 .1 .1 .1 .1 .1 .0));
+        started = not-false _ (n .1 .1 .0);
+        place = ltb-true _ _ (not-false _ (n .1 .1 .1 .1 .1 .1 .1 .1 .1 .1 .1 .1 .1 .0));
       }
 
   -- its event

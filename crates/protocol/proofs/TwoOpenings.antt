@@ -104,7 +104,7 @@ early l src a o new free on r =
 on-time : (l : Listener) (src : List ℕ) (a : Arrival) → Opens l src a → l .clock ≤ a .time
 on-time l src a o =
     let n = none-applies order (wireChecks (l .local) (isUntimely (l .clock) (a .time)) src (a .seg) (a .out-len)) (o .clear) in
-    ltb-false (a .time) (l .clock) (or-false (ltb (a .time) (l .clock)) _ (n .1 .0) .0)
+    ltb-false (a .time) (l .clock) (or-false (ltb (a .time) (l .clock)) _ (n .1 .1 .1 .0) .0)
 
 -- Two openings
 

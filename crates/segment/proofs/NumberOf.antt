@@ -7,17 +7,17 @@ use native.Mathlib.Omega.{arith}
 use lib.ListN.{getD}
 use Rattle.segment.specs.Refusal.{numberOf, order, Checks, applies, firstOf, checkNumber}
 use Rattle.segment.specs.declared.refusal.Refusal.{Refusal}
-use Rattle.segment.specs.declared.refusal.Refusal.the-variants.{Format, Address, Checksum, Port, Time, Flags, NameInUse, TableFull, NoConnection, Sequence, Output, Range, NotStarted}
+use Rattle.segment.specs.declared.refusal.Refusal.the-variants.{Format, Address, Checksum, Port, Time, Flags, NameInUse, TableFull, NoConnection, Sequence, Output, Range, NotStarted, CutRecord, BadCapture}
 use Rattle.segment.specs.declared.refusal.Check.{Check}
 use Rattle.segment.specs.declared.refusal.Check.the-variants.{Clear, Refused}
 
--- the order as document 01 writes it
-pub in-order : map numberOf order ≡ 13 ∷ 5 ∷ 2 ∷ 11 ∷ 1 ∷ 3 ∷ 4 ∷ 6 ∷ 12 ∷ 7 ∷ 9 ∷ 8 ∷ 10 ∷ []
+-- the order as documents 01 and 02 write it
+pub in-order : map numberOf order ≡ 15 ∷ 14 ∷ 13 ∷ 5 ∷ 2 ∷ 11 ∷ 1 ∷ 3 ∷ 4 ∷ 6 ∷ 12 ∷ 7 ∷ 9 ∷ 8 ∷ 10 ∷ []
 in-order = refl
 
 -- A number stands for one refusal: this list has them by their numbers.
 byNumber : List Refusal
-byNumber = Format ∷ Address ∷ Checksum ∷ Port ∷ Time ∷ Flags ∷ NameInUse ∷ TableFull ∷ NoConnection ∷ Sequence ∷ Output ∷ Range ∷ NotStarted ∷ []
+byNumber = Format ∷ Address ∷ Checksum ∷ Port ∷ Time ∷ Flags ∷ NameInUse ∷ TableFull ∷ NoConnection ∷ Sequence ∷ Output ∷ Range ∷ NotStarted ∷ CutRecord ∷ BadCapture ∷ []
 
 found : (r : Refusal) → getD byNumber (numberOf r - 1) Format ≡ r
 unfolding byNumber
@@ -34,6 +34,8 @@ found Sequence = refl
 found Output = refl
 found Range = refl
 found NotStarted = refl
+found CutRecord = refl
+found BadCapture = refl
 
 pub one-number : (a b : Refusal) → numberOf a ≡ numberOf b → a ≡ b
 one-number a b e = sym (found a) ∙ ap (λ (n : ℕ). getD byNumber (n - 1) Format) e ∙ found b
@@ -89,6 +91,8 @@ positive Sequence q = omega arith
 positive Output q = omega arith
 positive Range q = omega arith
 positive NotStarted q = omega arith
+positive CutRecord q = omega arith
+positive BadCapture q = omega arith
 
 pub done-is-0 : (c : Check) → checkNumber c ≡ 0 → c ≡ Clear
 done-is-0 Clear e = refl

@@ -1,11 +1,11 @@
--- Document 01, "Numbers returned": why a call is refused, the number of each reason, and their order.
+-- Document 01, "Numbers returned", and document 02, Item 3 (14 and 15): why a call is refused, the number of each reason, and their order.
 -- Assumes nothing.
 use Prim.Native.Nat.{ℕ}
 use mathlib.Core.List.{List, [], _∷_}
 use mathlib.Core.Bool.{Bool, false, cond, _||_}
 use lib.Dec.{eqb}
 use Rattle.segment.specs.declared.refusal.Refusal.{Refusal}
-use Rattle.segment.specs.declared.refusal.Refusal.the-variants.{Format, Address, Checksum, Port, Time, Flags, NameInUse, TableFull, NoConnection, Sequence, Output, Range, NotStarted}
+use Rattle.segment.specs.declared.refusal.Refusal.the-variants.{Format, Address, Checksum, Port, Time, Flags, NameInUse, TableFull, NoConnection, Sequence, Output, Range, NotStarted, CutRecord, BadCapture}
 use Rattle.segment.specs.declared.refusal.Check.{Check}
 use Rattle.segment.specs.declared.refusal.Check.the-variants.{Clear, Refused}
 
@@ -24,11 +24,13 @@ numberOf Sequence = 10
 numberOf Output = 11
 numberOf Range = 12
 numberOf NotStarted = 13
+numberOf CutRecord = 14
+numberOf BadCapture = 15
 
 -- the order in which they are tested
 abbrev pub order : List Refusal
 order =
-    NotStarted ∷ Time ∷ Address ∷ Output ∷ Format ∷ Checksum ∷ Port ∷ Flags
+    BadCapture ∷ CutRecord ∷ NotStarted ∷ Time ∷ Address ∷ Output ∷ Format ∷ Checksum ∷ Port ∷ Flags
     ∷ Range ∷ NameInUse ∷ NoConnection ∷ TableFull ∷ Sequence ∷ []
 
 -- The checks of a call: the refusals that it has, each with whether it applies, in any order and as often as there are reasons for it.

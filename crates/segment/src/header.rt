@@ -78,7 +78,7 @@ pub fn read_header(seg: &[u8]) -> Shape
 }
 
 // At most `len` bytes from `at` on.
-pub(crate) fn part(s: &[u8], at: usize, len: usize) -> &[u8]
+pub fn part(s: &[u8], at: usize, len: usize) -> &[u8]
     ensures { λ r. ⌜ now r ≡ take len (drop at (now (s .entry))) ⌝ }
 {
     let n = s.len();

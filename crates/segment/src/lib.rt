@@ -4,7 +4,7 @@
 // or an output is too short, the result is 0 and nothing is written. The definitions that the contracts cite are in specs/.
 pub mod checksum;
 pub mod header;
-mod number;
+pub mod number;
 pub mod options;
 pub mod refusal;
 pub mod sequence;

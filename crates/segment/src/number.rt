@@ -5,14 +5,14 @@ ghost use lib.ListN.{length};
 ghost use Rattle.segment.specs.Bytes.{word, long, wordAt, longAt};
 
 // The number of two bytes.
-pub(crate) fn word16(a: u8, b: u8) -> u16
+pub fn word16(a: u8, b: u8) -> u16
     ensures { λ r. ⌜ r ≡ word a b ⌝ }
 {
     (a as u16) * 256 + (b as u16)
 }
 
 // The number of four bytes.
-fn long32(a: u8, b: u8, c: u8, d: u8) -> u32
+pub fn long32(a: u8, b: u8, c: u8, d: u8) -> u32
     ensures { λ r. ⌜ r ≡ long a b c d ⌝ }
 {
     (((a as u32) * 256 + (b as u32)) * 256 + (c as u32)) * 256 + (d as u32)

@@ -2,7 +2,7 @@
 ghost use mathlib.Core.Path.{_≡_};
 ghost use Rattle.segment.specs.Refusal.{numberOf};
 
-// Why a call is refused. When each is given is document 01's table, "Numbers returned".
+// Why a call is refused. When each is given is document 01's table, "Numbers returned"; the last two are document 02's, of captures.
 pub enum Refusal {
     Format,
     Address,
@@ -17,6 +17,8 @@ pub enum Refusal {
     Output,
     Range,
     NotStarted,
+    CutRecord,
+    BadCapture,
 }
 
 // What the checks of a call come to.
@@ -25,7 +27,7 @@ pub enum Check {
     Refused(Refusal),
 }
 
-// The number of a refusal, 1 to 13.
+// The number of a refusal, 1 to 15.
 pub fn number(why: Refusal) -> u8
     ensures { λ r. ⌜ r ≡ numberOf why ⌝ }
 {
@@ -43,5 +45,7 @@ pub fn number(why: Refusal) -> u8
         Refusal::Output => 11,
         Refusal::Range => 12,
         Refusal::NotStarted => 13,
+        Refusal::CutRecord => 14,
+        Refusal::BadCapture => 15,
     }
 }
