@@ -17,7 +17,8 @@ pub struct Written {
     pub len: usize,
 }
 
-fn refused(why: Refusal) -> Written
+// A write that is refused.
+pub fn refused(why: Refusal) -> Written
     ensures { λ r. ⌜ r ≡ record { check = Check.Refused why; len = 0 } ⌝ }
 {
     Written {
