@@ -1,0 +1,2 @@
+// A capture fed to a listener, record by record.
+pub mod feed;
