@@ -3,6 +3,7 @@
 use client::calls::never_started;
 use client::state::Memory;
 use client_player::play::play_line;
+use libc::STDIN_FILENO;
 use libc::STDOUT_FILENO;
 use text::line::LONGEST;
 use text::part::first;
@@ -35,7 +36,7 @@ fn play_part(s: Session, input: &mut [u8; INPUT], line: &mut [u8; LONGEST]) -> S
     ensures { λ q. ⌜ q .reader .left ≤ s .reader .left - 1 ⌝ }
 {
     let r = s.reader;
-    let n = read_if_used_up(r, input);
+    let n = read_if_used_up(STDIN_FILENO, r, input);
     let reader = take_next(r, n, input, line);
     let memory = s.memory;
     if !reader.complete {

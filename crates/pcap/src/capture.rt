@@ -49,9 +49,9 @@ pub fn file<'a>(c: Capture<'a>) -> &'a [u8]
     c.file
 }
 
-// The first record of a capture in a lent buffer, for a caller that has no such struct.
-pub fn first_record(buffer: &[u8]) -> Next
-    ensures { λ r. ⌜ r ≡ nextIn (now (buffer .entry)) 24 ⌝ }
+// What stands at a place of a capture in a lent buffer, for a caller that has no such struct.
+pub fn next_in(buffer: &[u8], at: usize) -> Next
+    ensures { λ r. ⌜ r ≡ nextIn (now (buffer .entry)) at ⌝ }
 {
-    next(open(buffer))
+    next(Capture { file: buffer, at })
 }

@@ -19,10 +19,10 @@ ghost use Rattle.protocol.specs.Call.{kindOfEvent, verdictOf};
 ghost use Rattle.text.specs.Put.{placeAfter, laid, field};
 ghost use Rattle.player.specs.Line.{kindWord, verdictWord, lineOf, outcomeLine, eventOf};
 
-// Puts the line of what a call came to at the buffer's start, and returns where it ends: `lent` is the output that was lent to it.
-pub(crate) fn put_outcome(out: &mut [u8], o: Outcome, lent: &[u8], part: &[u8]) -> usize
-    ensures { λ r. ⌜ r ≡ placeAfter 0 (length (outcomeLine o (now (lent .entry)) (now (part .entry)))) (length (now (out .entry))) ⌝ }
-    ensures { λ _. ⌜ now (out .exit) ≡ laid 0 (outcomeLine o (now (lent .entry)) (now (part .entry))) (now (out .entry)) ⌝ }
+// Puts the line of what a call came to at a place, and returns where it ends: `lent` is the output that was lent to it.
+pub(crate) fn put_outcome(out: &mut [u8], at: usize, o: Outcome, lent: &[u8], part: &[u8]) -> usize
+    ensures { λ r. ⌜ r ≡ placeAfter at (length (outcomeLine o (now (lent .entry)) (now (part .entry)))) (length (now (out .entry))) ⌝ }
+    ensures { λ _. ⌜ now (out .exit) ≡ laid at (outcomeLine o (now (lent .entry)) (now (part .entry))) (now (out .entry)) ⌝ }
 {
     let l = o.listener;
     let event = o.event;
@@ -31,6 +31,7 @@ pub(crate) fn put_outcome(out: &mut [u8], o: Outcome, lent: &[u8], part: &[u8]) 
     let kept = is_kept(lent, written);
     put_fields(
         out,
+        at,
         event,
         pending(l),
         first(lent, written),
@@ -40,9 +41,11 @@ pub(crate) fn put_outcome(out: &mut [u8], o: Outcome, lent: &[u8], part: &[u8]) 
     )
 }
 
-// Puts the fields of an outcome.
-fn put_fields(
+// Puts the line of an event at a place, and returns where it ends: how many are pending, what was written, the accepted part, whether the lent bytes past the
+// written ones are as they were, and what was remarked.
+pub fn put_fields(
     out: &mut [u8],
+    at: usize,
     event: Event,
     pending: u32,
     written: &[u8],
@@ -50,10 +53,10 @@ fn put_fields(
     kept: bool,
     remarks: Remarks,
 ) -> usize
-    ensures { λ r. ⌜ r ≡ placeAfter 0 (length (lineOf event pending (now (written .entry)) (now (part .entry)) kept remarks)) (length (now (out .entry))) ⌝ }
-    ensures { λ _. ⌜ now (out .exit) ≡ laid 0 (lineOf event pending (now (written .entry)) (now (part .entry)) kept remarks) (now (out .entry)) ⌝ }
+    ensures { λ r. ⌜ r ≡ placeAfter at (length (lineOf event pending (now (written .entry)) (now (part .entry)) kept remarks)) (length (now (out .entry))) ⌝ }
+    ensures { λ _. ⌜ now (out .exit) ≡ laid at (lineOf event pending (now (written .entry)) (now (part .entry)) kept remarks) (now (out .entry)) ⌝ }
 {
-    let a = put_number_field(out, 0, event_number(event) as u64);
+    let a = put_number_field(out, at, event_number(event) as u64);
     let b = put_kind_and_verdict(out, a, event);
     let c = put_number_field(out, b, accepted_count(event) as u64);
     let d = put_number_field(out, c, written.len() as u64);

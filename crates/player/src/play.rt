@@ -110,7 +110,7 @@ fn play_order(
     let listener = o.listener;
     let event = o.event;
     let part = accepted_part(first(b, seg_len(order)), event);
-    let len = put_outcome(text, o, lent, part);
+    let len = put_outcome(text, 0, o, lent, part);
     let reply = Reply::Number(event_number(event));
     Played {
         listener,

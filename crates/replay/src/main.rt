@@ -1,5 +1,6 @@
 // Plays a script of a listener's calls from standard input and prints a line for each: what the call came to. A line is answered as soon as it is
 // complete, so that the program can be driven through a pipe.
+use libc::STDIN_FILENO;
 use libc::STDOUT_FILENO;
 use listener::calls::never_started;
 use player::play::play_line;
@@ -35,7 +36,7 @@ fn play_part(s: Session, input: &mut [u8; INPUT], line: &mut [u8; LONGEST]) -> S
     ensures { λ q. ⌜ q .reader .left ≤ s .reader .left - 1 ⌝ }
 {
     let r = s.reader;
-    let n = read_if_used_up(r, input);
+    let n = read_if_used_up(STDIN_FILENO, r, input);
     let reader = take_next(r, n, input, line);
     let listener = s.listener;
     if !reader.complete {

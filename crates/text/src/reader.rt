@@ -1,7 +1,6 @@
-// Standard input, line by line, as it comes: a line is complete as soon as its line feed was read, and more is read only where all that was read is used up.
+// A file, line by line, as it comes: a line is complete as soon as its line feed was read, and more is read only where all that was read is used up.
 use crate::line::gather;
 use crate::part::first;
-use libc::STDIN_FILENO;
 ghost use mathlib.Core.Path.{_≡_};
 ghost use Prim.Native.Nat.{_-_, _≤_};
 ghost use mathlib.Core.Bool.{false};
@@ -77,13 +76,13 @@ fn is_used_up(r: Reader) -> bool
     r.end <= r.next
 }
 
-// Reads to the input's start where nothing is left, and returns how many bytes came. A read that fails counts as the end of the input.
-pub fn read_if_used_up(r: Reader, input: &mut [u8]) -> usize
+// Reads from a file to the input's start where nothing is left, and returns how many bytes came. A read that fails counts as the end of the input.
+pub fn read_if_used_up(fd: i32, r: Reader, input: &mut [u8]) -> usize
     ensures { λ n. ⌜ Counts n (now (input .exit)) ⌝ }
     ensures { λ _. ⌜ (isUsedUp r ≡ false → now (input .exit) ≡ now (input .entry)) ⌝ }
 {
     if is_used_up(r) {
-        let got = libc::read(STDIN_FILENO, input);
+        let got = libc::read(fd, input);
         return io::count(got, input);
     }
     0

@@ -23,7 +23,7 @@ line-of o lent part p q r = rw (p, q, r)
 returns : tie.Need-returns
 returns c =
     let s = c .before .before .before .before .before .before .before .before .before .before .before .before .args in
-    same-put (s .out .now) 0 _ (outcomeLine (s .o) (s .lent .now) (s .part .now)) _ _ (line-of (s .o) (s .lent .now) (s .part .now) (c .before .before .before .before .pending .ensures) (c .before .before .before .first .ensures) (c .before .before .before .before .before .before .is-kept .ensures)) (c .before .before .put-fields .ensures)
+    same-put (s .out .now) (s .at) _ (outcomeLine (s .o) (s .lent .now) (s .part .now)) _ _ (line-of (s .o) (s .lent .now) (s .part .now) (c .before .before .before .before .pending .ensures) (c .before .before .before .first .ensures) (c .before .before .before .before .before .before .is-kept .ensures)) (c .before .before .put-fields .ensures)
 
 pub put-outcome-spec : {M : Type 1} → statement M
 put-outcome-spec =
