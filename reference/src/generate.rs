@@ -1,15 +1,18 @@
-//! Scripts made from a seed. The maker runs the calls itself as it goes, so that it knows
+//! Scripts and captures made from a seed. The maker runs the calls itself as it goes, so that it knows
 //! right cookies and numbers, and can then damage them on purpose.
 
+mod capture;
 mod client;
 mod line;
 mod listener;
+mod packet;
 mod segment;
 
 use crate::script::Session;
 use crate::wire::LAST_TIME;
 use line::Line;
 
+pub use capture::{generate as capture, last_record, setup};
 pub use client::generate as client;
 pub use listener::generate as listener;
 

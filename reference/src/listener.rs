@@ -229,7 +229,7 @@ impl Listener {
         front.check_family(source)?;
         check_output(out)?;
         let segment = Segment::parse(segment).ok_or(Refusal::Malformed)?;
-        if !segment.checksum_holds(source, &front.own[..front.family]) {
+        if !segment.checksum_holds(source, front.own()) {
             return Err(Refusal::Checksum);
         }
         if segment.destination_port() != front.port {
@@ -448,14 +448,13 @@ impl Front {
             flags: SYN | ACK,
         };
         let peer = name.block.to_be_bytes();
-        wire::finish(
-            segment,
-            &header,
-            written - wire::HEADER,
-            &self.own[..self.family],
-            &peer[..self.family],
-        );
+        wire::finish(segment, &header, written - wire::HEADER, self.own(), &peer[..self.family]);
         written
+    }
+
+    /// Our address.
+    pub fn own(&self) -> &[u8] {
+        &self.own[..self.family]
     }
 
     pub fn clock(&self) -> u64 {

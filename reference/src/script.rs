@@ -12,6 +12,11 @@ pub const MOST_OUTPUT: u64 = 2048;
 const FILLER: u8 = 0xa5;
 const BAD_LINE: &str = "bad line";
 
+/// Output to be lent.
+pub fn filled(length: usize) -> Vec<u8> {
+    vec![FILLER; length]
+}
+
 /// A replay: takes lines without their line feed, gives the line to print, if any.
 pub trait Session {
     /// Runs a call line; `None` if it isn't one.
@@ -112,7 +117,7 @@ impl<'a> Words<'a> {
 
     /// The lent output, filled.
     fn output(&mut self) -> Option<Vec<u8>> {
-        self.number(MOST_OUTPUT).map(|length| vec![FILLER; length as usize])
+        self.number(MOST_OUTPUT).map(|length| filled(length as usize))
     }
 
     fn bytes(&mut self) -> Option<Vec<u8>> {
@@ -237,6 +242,11 @@ impl ListenerSession {
         )
     }
 
+    /// The line for a segment call that has been made.
+    pub fn segment_line(&self, reply: Result<Reply, Refusal>, segment: &[u8], out: &[u8]) -> String {
+        self.answer(reply.map(|reply| ListenerDone::segment(reply, segment)), out)
+    }
+
     /// The line for a call that is no segment.
     fn by_rote(&self, result: Result<usize, Refusal>, out: &[u8]) -> String {
         self.answer(result.map(|written| ListenerDone { written, ..ListenerDone::default() }), out)
@@ -287,7 +297,7 @@ impl Session for ListenerSession {
                 let (mut out, segment) = (words.output()?, words.bytes()?);
                 words.end()?;
                 let reply = self.listener.segment(time, &source, ours, &segment, &mut out);
-                Some(self.answer(reply.map(|reply| ListenerDone::segment(reply, &segment)), &out))
+                Some(self.segment_line(reply, &segment, &out))
             }
             b"abandon" => {
                 let (time, source, port) = (words.u64()?, words.bytes()?, words.u16()?);

@@ -8,7 +8,7 @@ use crate::listener::{
     accepted_part, cookie, Kind, Listener, Reply, Settings, Slot, Status, Verdict, LEAST_OUTPUT,
 };
 use crate::script::{self, ClientSession, ListenerSession, Session};
-use crate::summary::Summary;
+use crate::summary::{Side, Summary};
 use crate::timing;
 use crate::wire::{self, Coding, Codings, Header, Reading, Refusal, ACK, FIN, LAST_TIME, RST, SYN};
 
@@ -1688,7 +1688,7 @@ fn generated_scripts_cover_everything() {
         let text = generate::listener(seed, 3000);
         assert!(text == generate::listener(seed, 3000));
         let mut summary = Summary::default();
-        answers(&mut ListenerSession::new(), &text).iter().for_each(|line| summary.add(line, true));
+        answers(&mut ListenerSession::new(), &text).iter().for_each(|line| summary.add(line, Side::Listener));
         for number in 0..=13 {
             assert!(summary.numbers[&number] >= 20, "seed {seed} number {number}");
         }
@@ -1705,7 +1705,7 @@ fn generated_scripts_cover_everything() {
         let text = generate::client(seed, 3000);
         assert!(text == generate::client(seed, 3000));
         let mut summary = Summary::default();
-        answers(&mut ClientSession::new(), &text).iter().for_each(|line| summary.add(line, false));
+        answers(&mut ClientSession::new(), &text).iter().for_each(|line| summary.add(line, Side::Client));
         for number in [0, 1, 2, 3, 4, 5, 6, 10, 11, 12, 13] {
             assert!(summary.numbers[&number] >= 20, "seed {seed} number {number}");
         }

@@ -4,7 +4,10 @@
 use std::hint::black_box;
 
 use crate::aes::Schedule;
+use crate::capture;
 use crate::listener::{cookie, Kind, Listener, Reply, Settings, Verdict, LEAST_OUTPUT, SLOTS, WHOLE_SHARE};
+use crate::packet::{carry, Carried};
+use crate::pcap::{Record, Walk, Writer};
 use crate::wire::{self, Codings, Header, Reading, Refusal, ACK, SYN};
 
 const KEY: [u8; 16] = [0, 1, 2, 3, 4, 5, 6, 7, 8, 9, 10, 11, 12, 13, 14, 15];
@@ -16,6 +19,10 @@ const PEER_PORT: u16 = 40_000;
 /// Another address, which has many connections.
 const CROWD: [u8; 4] = [192, 0, 2, 9];
 const LIVE_PORT: u16 = 50_000;
+/// An address that isn't ours.
+const ELSEWHERE: [u8; 4] = [192, 0, 2, 3];
+/// How many records the walked capture has.
+const RECORDS: u16 = 1000;
 const IRS: u32 = 1000;
 const ISS: u32 = 7;
 const SETTINGS: Settings = Settings {
@@ -55,6 +62,7 @@ pub fn run(work: &str, count: u64, live: usize, payload: usize) -> Option<u64> {
         }
         "full" => Some(openings(count, SLOTS, &early_opening(payload))),
         "unknown" => Some(unknown(count, live)),
+        "walk" => Some(walk(count)),
         _ => None,
     }
 }
@@ -184,7 +192,12 @@ impl Bench {
     }
 
     fn add_segment(&mut self, ours: u32, segment: &[u8]) {
-        match self.segment(ours, segment) {
+        let reply = self.segment(ours, segment);
+        self.add_reply(reply);
+    }
+
+    fn add_reply(&mut self, reply: Result<Reply, Refusal>) {
+        match reply {
             Ok(reply) => {
                 self.digest = self.digest.wrapping_add((reply.accepted + reply.written) as u64);
                 if reply.written > 0 {
@@ -209,6 +222,45 @@ impl Bench {
         }
         self.digest
     }
+}
+
+/// A capture of openings that ask for a cookie, each from an address and a port of its own and
+/// with a TCP part of 100 bytes; every second one goes elsewhere. All have one time, so that the
+/// capture can be walked again.
+fn requests() -> Vec<u8> {
+    let mut capture = Writer::new();
+    for number in 0..RECORDS {
+        let [high, low] = number.to_be_bytes();
+        let source = [10, 0, high, low];
+        let options = [2, 4, 5, 0xb4, 34, 2, 1, 1];
+        let tcp = from((source, PEER_PORT + number), IRS, 0, SYN, &options, &pattern(72));
+        let destination = if number % 2 == 0 { &OWN } else { &ELSEWHERE };
+        let bytes = carry(&Carried { source: &source, destination, tcp: &tcp });
+        let record =
+            Record { seconds: 1, microseconds: 999_999, original: bytes.len() as u32, bytes: &bytes };
+        capture.add(&record).expect("a short record");
+    }
+    capture.file
+}
+
+/// A turn is a record, from the first again after the last. The listener has fresh settings; once
+/// its table is full, openings are repeats or refused.
+fn walk(count: u64) -> u64 {
+    let file = requests();
+    let listener = Listener::start(&OWN, OWN_PORT, &KEY).expect("a right start");
+    let mut bench = Bench { listener, out: [0; LEAST_OUTPUT], digest: 0 };
+    let mut left = count;
+    while left > 0 {
+        for (place, record) in (0..left).zip(Walk::new(black_box(&file))) {
+            let record = record.expect("a whole capture");
+            bench.digest = bench.digest.wrapping_add(record.time());
+            if let Some(fed) = capture::feed(&mut bench.listener, place, &record, &mut bench.out) {
+                bench.add_reply(fed.reply);
+            }
+        }
+        left = left.saturating_sub(RECORDS.into());
+    }
+    bench.digest
 }
 
 fn openings(count: u64, live: usize, opening: &[u8]) -> u64 {

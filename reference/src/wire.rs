@@ -18,9 +18,9 @@ pub const EXPERIMENT: u8 = 254;
 /// The two bytes of the Fast Open experiment.
 pub const FAST_OPEN_MARK: [u8; 2] = [0xf9, 0x89];
 
-const PROTOCOL_TCP: u64 = 6;
+pub const PROTOCOL_TCP: u8 = 6;
 
-/// The one numbering of refusals, for the listener and the client alike.
+/// The one numbering of refusals, for the listener, the client and captures alike.
 #[derive(Clone, Copy, Debug, PartialEq, Eq)]
 pub enum Refusal {
     Malformed = 1,
@@ -36,6 +36,8 @@ pub enum Refusal {
     Output = 11,
     Range = 12,
     NeverStarted = 13,
+    CutRecord = 14,
+    BadCapture = 15,
 }
 
 impl Refusal {
@@ -290,7 +292,7 @@ pub fn add_to_sum(sum: u16, bytes: &[u8]) -> u16 {
 
 /// IPv4 and IPv6 lay the pseudo-header out differently, but its words add up to the same.
 fn pseudo_header(source: &[u8], destination: &[u8], length: usize) -> u64 {
-    words(source) + words(destination) + PROTOCOL_TCP + length as u64
+    words(source) + words(destination) + u64::from(PROTOCOL_TCP) + length as u64
 }
 
 /// The value of the checksum field, given that the field in `segment` is zero.

@@ -26,27 +26,27 @@ pub fn generate(seed: u64, calls: usize) -> Vec<u8> {
 }
 
 /// What one listener's life is mostly about.
-struct Theme {
-    calls: usize,
-    addresses: usize,
-    ports: u64,
-    limits: &'static [u32],
-    holds: &'static [u32],
-    shares: &'static [u32],
+pub struct Theme {
+    pub calls: usize,
+    pub addresses: usize,
+    pub ports: u64,
+    pub limits: &'static [u32],
+    pub holds: &'static [u32],
+    pub shares: &'static [u32],
     /// Percent of calls that are damaged.
-    damage: u64,
+    pub damage: u64,
     /// Weight of right cookies among openings; all else weighs 106.
-    right: u64,
+    pub right: u64,
     /// Weights of the actions, in the order of `Maker::act_once`.
-    actions: [u64; 16],
+    pub actions: [u64; 16],
     /// The usual longest step in time, and a rare longer one.
-    step: u64,
-    leap: u64,
-    near_last_time: bool,
+    pub step: u64,
+    pub leap: u64,
+    pub near_last_time: bool,
     /// Begins with as many early connections as there are slots, or almost.
-    brim: bool,
+    pub brim: bool,
     /// Begins with one address that takes far more than its share.
-    monday: bool,
+    pub monday: bool,
 }
 
 #[rustfmt::skip]
@@ -97,14 +97,14 @@ const MONDAY: Theme = Theme {
 };
 
 /// Shares that seldom matter, so that all else is met as often as without them.
-const FEW: &[u32] = &[64, 64, 64, 64, 64, 64, 64, 64, 64, 63, 5, 2];
+pub const FEW: &[u32] = &[64, 64, 64, 64, 64, 64, 64, 64, 64, 63, 5, 2];
 
 /// Numbers just out of a share's range, and some that are in it if they are cut short.
 const NO_SHARES: [u32; 9] = [0, 0, 65, 65, 66, 256 + 8, 65_536 + 8, u32::MAX, u32::MAX];
 
 /// What an opening has for a cookie.
 #[derive(Clone, Copy)]
-enum Offer {
+pub enum Offer {
     Right,
     /// Right under the key before the present one, if there was one.
     Outdated,
@@ -112,21 +112,21 @@ enum Offer {
     Request,
 }
 
-struct Maker {
-    script: Script<ListenerSession>,
-    own: Vec<u8>,
-    port: u16,
-    family: usize,
+pub struct Maker {
+    pub(super) script: Script<ListenerSession>,
+    pub own: Vec<u8>,
+    pub port: u16,
+    pub family: usize,
     addresses: Vec<Vec<u8>>,
     /// Every key this listener had, the present one last.
     keys: Vec<[u8; 16]>,
     first_port: u16,
     /// A time the next call is to have, if it isn't past.
-    meeting: Option<u64>,
+    pub meeting: Option<u64>,
 }
 
 impl Maker {
-    fn new(seed: u64) -> Maker {
+    pub fn new(seed: u64) -> Maker {
         Maker {
             script: Script::new(seed, ListenerSession::new()),
             own: vec![192, 0, 2, 2],
@@ -219,7 +219,7 @@ impl Maker {
         self.undamaged(0, &plan);
     }
 
-    fn set_scene(&mut self, theme: &Theme) {
+    pub fn set_scene(&mut self, theme: &Theme) {
         let rng = &mut self.script.rng;
         self.family = rng.pick(&[4, 4, 16]);
         self.own = rng.bytes(self.family);
@@ -238,12 +238,12 @@ impl Maker {
         self.addresses.push(self.own.clone());
     }
 
-    fn start(&mut self) {
+    pub fn start(&mut self) {
         let line = Line::new("start").bytes(&self.own).u16(self.port).bytes(&self.keys[0]);
         self.script.call(&line);
     }
 
-    fn refused_start(&mut self) {
+    pub fn refused_start(&mut self) {
         let mut own = self.own.clone();
         let mut key = self.keys[0].to_vec();
         let rng = &mut self.script.rng;
@@ -257,7 +257,7 @@ impl Maker {
         self.script.call(&line);
     }
 
-    fn act(&mut self, theme: &Theme) {
+    pub fn act(&mut self, theme: &Theme) {
         let before = self.clock();
         self.act_once(theme);
         let after = self.clock();
@@ -289,7 +289,7 @@ impl Maker {
         }
     }
 
-    fn clock(&self) -> u64 {
+    pub fn clock(&self) -> u64 {
         self.script.session.listener.front().map_or(0, |front| front.clock())
     }
 
@@ -304,12 +304,12 @@ impl Maker {
         slots.iter().filter(|slot| wanted(slot)).copied().collect()
     }
 
-    fn some_slot(&mut self, wanted: impl Fn(&Slot) -> bool) -> Option<Slot> {
+    pub fn some_slot(&mut self, wanted: impl Fn(&Slot) -> bool) -> Option<Slot> {
         let slots = self.slots(wanted);
         (!slots.is_empty()).then(|| self.script.rng.pick(&slots))
     }
 
-    fn time(&mut self, theme: &Theme) -> u64 {
+    pub fn time(&mut self, theme: &Theme) -> u64 {
         let clock = self.clock();
         if let Some(meeting) = self.meeting.take() {
             return meeting.clamp(clock, LAST_TIME);
@@ -355,7 +355,7 @@ impl Maker {
         bad
     }
 
-    fn address(&mut self) -> Vec<u8> {
+    pub fn address(&mut self) -> Vec<u8> {
         self.script.rng.pick(&self.addresses)
     }
 
@@ -363,7 +363,7 @@ impl Maker {
         self.first_port.wrapping_add(self.script.rng.below(theme.ports) as u16)
     }
 
-    fn plan(&self, source: &[u8], port: u16) -> Plan {
+    pub fn plan(&self, source: &[u8], port: u16) -> Plan {
         Plan {
             source: source.to_vec(),
             destination: self.own.clone(),
@@ -384,7 +384,7 @@ impl Maker {
     }
 
     /// Options for an opening from an address, mostly with a cookie of some worth.
-    fn options(&mut self, theme: &Theme, source: &[u8]) -> Vec<u8> {
+    pub fn options(&mut self, theme: &Theme, source: &[u8]) -> Vec<u8> {
         let other = self.address();
         let codings = self.codings();
         let present = *self.keys.last().unwrap_or(&[0; 16]);
@@ -447,6 +447,12 @@ impl Maker {
     }
 
     fn open(&mut self, theme: &Theme) {
+        let plan = self.opening(theme);
+        self.segment(theme, plan);
+    }
+
+    /// An opening for a new name.
+    pub fn opening(&mut self, theme: &Theme) -> Plan {
         let (source, port) = self.new_name(theme);
         let mut plan = self.plan(&source, port);
         plan.options = self.options(theme, &source);
@@ -461,14 +467,19 @@ impl Maker {
         if self.script.rng.percent(5) {
             plan.acknowledgement = self.script.rng.sequence();
         }
+        plan
+    }
+
+    fn open_again(&mut self, theme: &Theme) {
+        let plan = self.second_opening(theme);
         self.segment(theme, plan);
     }
 
     /// An opening for a name that is there already.
-    fn open_again(&mut self, theme: &Theme) {
+    pub fn second_opening(&mut self, theme: &Theme) -> Plan {
         let unfinished = self.script.rng.percent(70);
         let wanted = |slot: &Slot| slot.status != Status::Free && (!unfinished || slot.expected().is_some());
-        let Some(slot) = self.some_slot(wanted) else { return self.open(theme) };
+        let Some(slot) = self.some_slot(wanted) else { return self.opening(theme) };
         let source = slot.address(self.family);
         let mut plan = self.plan(&source, slot.port());
         plan.options = self.options(theme, &source);
@@ -478,7 +489,7 @@ impl Maker {
             plan.sequence =
                 self.script.rng.pick(&[slot.irs.wrapping_add(1), slot.irs.wrapping_sub(1), !slot.irs]);
         }
-        self.segment(theme, plan);
+        plan
     }
 
     /// A slot to try something on, mostly one in the right state, or else one made up.
@@ -494,6 +505,12 @@ impl Maker {
     }
 
     fn complete(&mut self, theme: &Theme) {
+        let plan = self.completion(theme);
+        self.segment(theme, plan);
+    }
+
+    /// A completion, mostly one that is admitted.
+    pub fn completion(&mut self, theme: &Theme) -> Plan {
         let slot = self.target(|slot| slot.expected().is_some());
         let mut plan = self.plan(&slot.address(self.family), slot.port());
         let rng = &mut self.script.rng;
@@ -516,10 +533,16 @@ impl Maker {
             let source = plan.source.clone();
             plan.options = self.options(theme, &source);
         }
-        self.segment(theme, plan);
+        plan
     }
 
     fn reset(&mut self, theme: &Theme) {
+        let plan = self.resetting(theme);
+        self.segment(theme, plan);
+    }
+
+    /// A reset, mostly of an early connection and one that is admitted.
+    pub fn resetting(&mut self, theme: &Theme) -> Plan {
         let early = self.script.rng.percent(70);
         let slot = if early {
             self.target(|slot| matches!(slot.status, Status::Early { .. }))
@@ -541,11 +564,16 @@ impl Maker {
             let source = plan.source.clone();
             plan.options = self.options(theme, &source);
         }
+        plan
+    }
+
+    fn kinds(&mut self, theme: &Theme) {
+        let plan = self.any_kind(theme);
         self.segment(theme, plan);
     }
 
     /// All flag combinations on all sorts of names, numbers being right where they can be.
-    fn kinds(&mut self, theme: &Theme) {
+    pub fn any_kind(&mut self, theme: &Theme) -> Plan {
         let slot = self.target(|slot| slot.expected().is_some());
         let mut plan = self.plan(&slot.address(self.family), slot.port());
         plan.flags = self.script.rng.next() as u8;
@@ -553,7 +581,7 @@ impl Maker {
         plan.acknowledgement = slot.iss.wrapping_add(1);
         let source = plan.source.clone();
         plan.options = self.options(theme, &source);
-        self.segment(theme, plan);
+        plan
     }
 
     /// Several behind one address, with one cookie and one initial number.
@@ -857,7 +885,7 @@ impl Maker {
     }
 
     /// An opening from a port of the address that isn't in the table.
-    fn newcomer(&mut self, theme: &Theme, source: &[u8], offer: Offer) -> Plan {
+    pub fn newcomer(&mut self, theme: &Theme, source: &[u8], offer: Offer) -> Plan {
         let family = self.family;
         let taken = self.slots(|slot| slot.status != Status::Free && slot.address(family) == source);
         let mut port = self.some_port(theme);
@@ -908,7 +936,7 @@ impl Maker {
     }
 
     /// The slot of a plan's name.
-    fn slot_of(&mut self, plan: &Plan) -> Option<Slot> {
+    pub fn slot_of(&mut self, plan: &Plan) -> Option<Slot> {
         let family = self.family;
         self.some_slot(|slot| slot.port() == plan.source_port && slot.address(family) == plan.source)
     }
@@ -985,7 +1013,7 @@ impl Maker {
     }
 
     /// A settings call, at a given time an in-range one that suits the theme.
-    fn settings(&mut self, theme: &Theme, time: Option<u64>) {
+    pub fn settings(&mut self, theme: &Theme, time: Option<u64>) {
         let mut at = time.unwrap_or_else(|| self.time(theme));
         let rng = &mut self.script.rng;
         let mut settings = Settings {
@@ -1047,7 +1075,7 @@ impl Maker {
         self.script.call(&line);
     }
 
-    fn key(&mut self, theme: &Theme) {
+    pub fn key(&mut self, theme: &Theme) {
         let mut time = self.time(theme);
         if self.script.rng.percent(8) {
             time = self.bad_time();
