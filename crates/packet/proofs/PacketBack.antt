@@ -1,11 +1,11 @@
 -- A packet that is written is read as one to its destination, with the same segment, and an IPv4 header's sum is 65,535. Assumes nothing.
 use Prim.Native.Nat.{ℕ, _+_, _*_, _/_, _%_, _≤_, _<_}
-use mathlib.Core.Path.{_≡_, refl, sym, ap₂, _∙_}
+use mathlib.Core.Path.{_≡_, refl, sym, ap, ap₂, _∙_}
 use mathlib.Core.Bool.{true}
 use mathlib.Core.List.{List, [], _∷_, _++_}
 use native.Mathlib.Omega.{arith}
 use borrow.Author.Tests.{le-leb, eq-eqb}
-use lib.Seq.{getD-drop, take-add, take-all}
+use lib.Seq.{getD-drop, take-add, take-all, take-at}
 use lib.ListN.{length, take, drop, getD, length-drop, replicate}
 use Rattle.lists.specs.Bytes.{Bytes, sameBytes}
 use Rattle.lists.proofs.SameBytes.{same-bytes-refl}
@@ -20,20 +20,25 @@ use Rattle.endpoint.proofs.Blocks.{block-four, block-sixteen}
 use Rattle.endpoint.specs.declared.address.Family.{Family}
 use Rattle.endpoint.specs.declared.address.Family.the-variants.{V4, V6}
 use Rattle.packet.specs.Ip.{leastHeader, headerLength, isWholeV4, isWholeV6, destOf, isTo, carriedTo}
-use Rattle.packet.specs.Write.{fourOf, sixteenOf, beforeCheck, headerV4, checkedV4, headerV6, packetBytes, PacketBack}
-use Rattle.packet.proofs.Found.{packet-length}
+use Rattle.packet.specs.Write.{fourOf, sixteenOf, beforeCheck, headerV4, checkedV4, headerV6, packetBytes, PacketBack, HeaderSum}
+use Rattle.packet.proofs.Found.{length-v4, packet-length}
 
 -- The header's sum
 
-pub header-sum : (own dst : List ℕ) (n : ℕ) → Bytes own → Bytes dst → onesSum 0 (checkedV4 own dst n) ≡ 65535
+checked-sum : (own dst : List ℕ) (n : ℕ) → Bytes own → Bytes dst → onesSum 0 (checkedV4 own dst n) ≡ 65535
 unfolding checkedV4 headerV4
-header-sum own dst n p q =
+checked-sum own dst n p q =
     sum-with-complement (beforeCheck n) (fourOf own ++ fourOf dst) refl
     (omega arith, (omega arith, (omega arith, (omega arith, (omega arith, (omega arith, (omega arith, (omega arith, (omega arith, (omega arith, tt))))))))))
     (bytes-append (fourOf own) (fourOf dst) (four own p) (four dst q))
   where
     four : (b : List ℕ) → Bytes b → Bytes (fourOf b)
     four b h = (each-byte b h 0, (each-byte b h 1, (each-byte b h 2, (each-byte b h 3, tt))))
+
+pub header-sum : (own dst tcp : List ℕ) → Bytes own → Bytes dst → HeaderSum own dst tcp
+unfolding packetBytes
+header-sum own dst tcp p q =
+    ap (onesSum 0) (take-at (checkedV4 own dst (length tcp)) tcp 20 (length-v4 own dst (length tcp))) ∙ checked-sum own dst (length tcp) p q
 
 -- Addresses, out of their blocks
 

@@ -27,7 +27,7 @@ unfoldable pub headerLength : Family → List ℕ → ℕ
 headerLength V4 p = 4 * (byteAt p 0 % 16)
 headerLength V6 p = leastHeader V6
 
--- IPv4: at least 20 bytes of header inside the packet, whose total length is its own; no more fragments (bit 32 of byte 6) and offset 0; TCP
+-- IPv4: at least 20 bytes of header inside the packet, whose total length is its own; no more fragments (the bit of value 32 in byte 6) and offset 0; TCP
 unfoldable pub isWholeV4 : List ℕ → Bool
 isWholeV4 p =
     leb (leastHeader V4) (length p)

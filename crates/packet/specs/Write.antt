@@ -1,6 +1,6 @@
 -- Document 02, Item 3, RFC 791, 3.1, and RFC 8200, 3: packets that are written around a TCP segment.
 -- Assumes nothing.
-use Prim.Native.Nat.{ℕ, _+_, _≤_}
+use Prim.Native.Nat.{ℕ, _+_}
 use mathlib.Core.Path.{_≡_}
 use mathlib.Core.List.{List, [], _∷_, _++_}
 use lib.ListN.{length, take}
@@ -60,3 +60,7 @@ pub record PacketBack (f : Family) (own dst tcp : List ℕ) : Type 0 where
   pub carried : carriedTo f (block dst) (packetBytes f (block own) (block dst) tcp) ≡ Tcp (leastHeader f)
   pub source : sourceOf f (packetBytes f (block own) (block dst) tcp) ≡ own
   pub segment : tcpOf (packetBytes f (block own) (block dst) tcp) (Tcp (leastHeader f)) ≡ tcp
+
+-- and the sum over its header, in IPv4, is 65,535
+abbrev pub HeaderSum : List ℕ → List ℕ → List ℕ → Type 0
+HeaderSum own dst tcp = onesSum 0 (take (leastHeader V4) (packetBytes V4 own dst tcp)) ≡ 65535

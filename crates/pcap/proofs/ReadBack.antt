@@ -10,8 +10,8 @@ use Rattle.lists.proofs.Sums.{All}
 use Rattle.segment.specs.declared.refusal.Check.the-variants.{Clear}
 use Rattle.segment.proofs.ReadBack.{back32}
 use Rattle.pcap.specs.File.{longIn, linked, headerOf}
-use Rattle.pcap.specs.Record.{headOf, bodied, nextOf}
-use Rattle.pcap.specs.Records.{Recorded, packetOf, recordedAs, sizeOf, Walk, joined, walk, walkBehind, capture}
+use Rattle.pcap.specs.Record.{headOf, bodied, nextOf, placeFrom, nextIn}
+use Rattle.pcap.specs.Records.{Recorded, packetOf, recordedAs, sizeOf, Walk, joined, walk, walkBehind, capture, ReaderWalks}
 use Rattle.pcap.specs.Write.{longBytes, headIn, recordIn, fileHeaderIn, Fits, captureIn, ReadsBack}
 use Rattle.pcap.specs.declared.file.ByteOrder.{ByteOrder}
 use Rattle.pcap.specs.declared.file.ByteOrder.the-variants.{LowFirst, HighFirst}
@@ -21,6 +21,7 @@ use Rattle.pcap.specs.declared.record.RecordHead.{RecordHead}
 use Rattle.pcap.specs.declared.record.Next.{Next}
 use Rattle.pcap.specs.declared.record.Next.the-variants.{Record, End, Cut, Bad}
 use Rattle.pcap.proofs.Next.{next-headed, body-whole}
+use Rattle.pcap.proofs.Steps.{behind}
 use Rattle.pcap.proofs.Windows.{header-append}
 use Rattle.pcap.proofs.Written.{head-length, file-length}
 
@@ -54,11 +55,11 @@ module _ (o : ByteOrder) (r : Recorded) (fits : Fits r) (y : List ℕ) where
   head = record { seconds = r .seconds; micros = r .micros; captured = length (r .packet); original = r .original }
 
   -- the header's bytes, and what is behind it
-  behind : List ℕ
-  behind = headIn o (r .seconds) (r .micros) (length (r .packet)) (r .original) ++ (r .packet ++ y)
+  bytes : List ℕ
+  bytes = headIn o (r .seconds) (r .micros) (length (r .packet)) (r .original) ++ (r .packet ++ y)
 
-  head-back : headOf o behind ≡ head
-  unfolding headOf headIn behind head
+  head-back : headOf o bytes ≡ head
+  unfolding headOf headIn bytes head
   head-back = go o
     where
       go : (o : ByteOrder) → headOf o (headIn o (r .seconds) (r .micros) (length (r .packet)) (r .original) ++ (r .packet ++ y)) ≡ head
@@ -67,34 +68,34 @@ module _ (o : ByteOrder) (r : Recorded) (fits : Fits r) (y : List ℕ) where
       go HighFirst =
           rw (back32 (r .seconds) (fits .seconds), back32 (r .micros) (fits .micros), back32 (length (r .packet)) (omega (arith, fits .packet)), back32 (r .original) (fits .original))
 
-  all : length behind ≡ 16 + (length (r .packet) + length y)
-  unfolding behind
+  all : length bytes ≡ 16 + (length (r .packet) + length y)
+  unfolding bytes
   all = length-append (headIn o (r .seconds) (r .micros) (length (r .packet)) (r .original)) (r .packet ++ y)
       ∙ rw (head-length o (r .seconds) (r .micros) (length (r .packet)) (r .original), length-append (r .packet) y)
 
-  next-back : nextOf o behind ≡ Record head
+  next-back : nextOf o bytes ≡ Record head
   unfolding head
   next-back =
-      next-headed o behind (omega (arith, all)) ∙ ap (λ (h : RecordHead). bodied h (length behind - 16)) head-back
-      ∙ body-whole head (length behind - 16) (fits .packet) (omega (arith, all))
+      next-headed o bytes (omega (arith, all)) ∙ ap (λ (h : RecordHead). bodied h (length bytes - 16)) head-back
+      ∙ body-whole head (length bytes - 16) (fits .packet) (omega (arith, all))
 
-  rest-back : drop 16 behind ≡ r .packet ++ y
-  unfolding behind
+  rest-back : drop 16 bytes ≡ r .packet ++ y
+  unfolding bytes
   rest-back = drop-at (headIn o (r .seconds) (r .micros) (length (r .packet)) (r .original)) (r .packet ++ y) 16 (head-length o (r .seconds) (r .micros) (length (r .packet)) (r .original))
 
-  packet-back : packetOf head behind ≡ r .packet
+  packet-back : packetOf head bytes ≡ r .packet
   unfolding head
   packet-back = ap (take (length (r .packet))) rest-back ∙ take-append-seam (r .packet) y
 
-  later-back : drop (16 + length (r .packet)) behind ≡ y
-  later-back = sym (drop-drop (length (r .packet)) 16 behind) ∙ ap (drop (length (r .packet))) rest-back ∙ drop-at (r .packet) y (length (r .packet)) refl
+  later-back : drop (16 + length (r .packet)) bytes ≡ y
+  later-back = sym (drop-drop (length (r .packet)) 16 bytes) ∙ ap (drop (length (r .packet))) rest-back ∙ drop-at (r .packet) y (length (r .packet)) refl
 
   -- the walk takes the record, and goes on behind it
   pub record-back : walk o 0 (recordIn o r ++ y) ≡ record { records = r ∷ walk o 0 y .records; check = walk o 0 y .check }
-  unfolding behind head
+  unfolding bytes head
   record-back =
-      let a : recordIn o r ++ y ≡ behind = append-assoc (headIn o (r .seconds) (r .micros) (length (r .packet)) (r .original)) (r .packet) y in
-      ap (walk o 0) a ∙ one-step o behind ∙ rw (next-back, later-back, packet-back)
+      let a : recordIn o r ++ y ≡ bytes = append-assoc (headIn o (r .seconds) (r .micros) (length (r .packet)) (r .original)) (r .packet) y in
+      ap (walk o 0) a ∙ one-step o bytes ∙ rw (next-back, later-back, packet-back)
 
 records-back : (o : ByteOrder) (rs : List Recorded) → All Fits rs → walk o 0 (flatMap (recordIn o) rs) ≡ record { records = rs; check = Clear }
 unfolding walk flatMap
@@ -113,3 +114,18 @@ read-back o rs h =
     let s = flatMap (recordIn o) rs in
     let g : headerOf (fileHeaderIn o ++ s) ≡ Good o = header-append (fileHeaderIn o) s (omega (arith, file-length o)) ∙ file-back o in
     ap (λ (f : FileHeader). walkBehind f (fileHeaderIn o ++ s)) g ∙ passed o (fileHeaderIn o ++ s) 24 ∙ ap (walk o 0) (drop-at (fileHeaderIn o) s 24 (file-length o)) ∙ records-back o rs h
+
+-- The reader, from place to place
+
+pub reader-walks : (s : List ℕ) (o : ByteOrder) → headerOf s ≡ Good o → ReaderWalks s o
+unfolding capture
+reader-walks s o g =
+    record {
+      first = ap (λ (f : FileHeader). walkBehind f s) g ∙ passed o s 24;
+      next =
+          λ at.
+          let n : nextIn s at ≡ nextOf o (drop (placeFrom at) s) = behind s at (Good o) g in
+          one-step o (drop (placeFrom at) s)
+          ∙ ap (λ (x : Next). joined x (drop (placeFrom at) s) (walk o 0 (drop (sizeOf x) (drop (placeFrom at) s)))) (sym n)
+          ∙ ap (λ (y : List ℕ). joined (nextIn s at) (drop (placeFrom at) s) (walk o 0 y)) (drop-drop (sizeOf (nextIn s at)) (placeFrom at) s);
+    }

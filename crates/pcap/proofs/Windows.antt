@@ -7,13 +7,13 @@ use native.Mathlib.Omega.{arith}
 use native.Mathlib.Nat.{zero-add}
 use borrow.Author.Tests.{lt-ltb, le-ltb, ltb-true, ltb-false}
 use lib.Dec.{ltb}
-use lib.Seq.{drop-append-le}
+use lib.Seq.{drop-append-le, drop-nil, drop-drop}
 use lib.ListN.{length, drop, length-append, length-drop}
 use Rattle.segment.specs.declared.refusal.Check.{Check}
 use Rattle.pcap.specs.File.{longIn, begins, linked, headerOf}
 use Rattle.pcap.specs.Record.{nextOf, checkOf}
 use Rattle.pcap.specs.Records.{Recorded, packetOf, recordedAs, sizeOf, Walk, joined, walk, walkBehind, capture}
-use Rattle.pcap.specs.Walker.{fresh, hasRoom, openedBy, headerTaken, nextTaken, recordTaken, takenAt, takenOf, sizeTaken, walkerAfter, finishAt, finishOf, Drained, stopped, drainedBy, drain, after, fed, SameWalk}
+use Rattle.pcap.specs.Walker.{fresh, hasRoom, openedBy, headerTaken, nextTaken, recordTaken, takenAt, takenOf, sizeTaken, walkerAfter, finishAt, finishOf, Drained, stopped, drainedBy, drain, after, fed, Stands, SameWalk, stepOf, OneStep}
 use Rattle.pcap.specs.declared.file.ByteOrder.{ByteOrder}
 use Rattle.pcap.specs.declared.file.ByteOrder.the-variants.{LowFirst, HighFirst}
 use Rattle.pcap.specs.declared.file.FileHeader.{FileHeader}
@@ -117,7 +117,7 @@ goes (b ∷ s) t w zero h = goes-step b s t (goes s t) w
 goes (b ∷ s) t w (suc k) h = goes s t w k (omega arith)
 
 -- so piece after piece is all at once
-at-once : (ps : List (List ℕ)) (w : Walker) (held : List ℕ) → fed w held ps ≡ drain w 0 (held ++ flatten ps)
+pub at-once : (ps : List (List ℕ)) (w : Walker) (held : List ℕ) → fed w held ps ≡ drain w 0 (held ++ flatten ps)
 unfolding fed flatten
 at-once [] w held = rw append-nil
 at-once (p ∷ ps) w held =
@@ -199,12 +199,88 @@ counted (b ∷ s) w zero = go (counted s) (takenOf w (b ∷ s)) refl
     go later Bad e = rw e (omega arith)
     go later TooLong e = rw e (omega arith)
 
+-- each byte that is taken is counted
+weighed : (s : List ℕ) (w : Walker) (k : ℕ) → drain w k s .walker .bytes + length (drain w k s .rest) ≡ w .bytes + (length s - k)
+unfolding drain
+weighed [] w k = omega arith
+weighed (b ∷ s) w (suc k) = omega (arith, weighed s w k)
+weighed (b ∷ s) w zero = go (weighed s) (takenOf w (b ∷ s)) refl (settled w (w .stage) (b ∷ s))
+  where
+    go : ((v : Walker) (k : ℕ) → drain v k s .walker .bytes + length (drain v k s .rest) ≡ v .bytes + (length s - k))
+        → (t : Taken) → takenOf w (b ∷ s) ≡ t → Settled w (w .stage) (b ∷ s) t
+        → drain w 0 (b ∷ s) .walker .bytes + length (drain w 0 (b ∷ s) .rest) ≡ w .bytes + (length (b ∷ s) - 0)
+    go later (Opened o) e k = rw e (omega (arith, later (walkerAfter w (Opened o)) 23, k .1))
+    go later (Record h) e k = rw e (omega (arith, later (walkerAfter w (Record h)) (16 + h .captured - 1), k .1 .0))
+    go later More e k = rw e (omega arith)
+    go later Bad e k = rw e (omega arith)
+    go later TooLong e k = rw e (omega arith)
+
+-- a walker goes as far as it can
+pub stops : (s : List ℕ) (w : Walker) (k : ℕ) → Stands (takenOf (drain w k s .walker) (drain w k s .rest))
+unfolding drain headerTaken recordTaken nextOf
+stops [] w k = go (w .stage)
+  where
+    go : (st : Stage) → Stands (takenAt w st [])
+    go Header = tt
+    go (Records o) = tt
+stops (b ∷ s) w (suc k) = stops s w k
+stops (b ∷ s) w zero = go (stops s) (takenOf w (b ∷ s)) refl
+  where
+    go : ((v : Walker) (k : ℕ) → Stands (takenOf (drain v k s .walker) (drain v k s .rest)))
+        → (t : Taken) → takenOf w (b ∷ s) ≡ t → Stands (takenOf (drain w 0 (b ∷ s) .walker) (drain w 0 (b ∷ s) .rest))
+    go later (Opened o) e = rw e (later (walkerAfter w (Opened o)) 23)
+    go later (Record h) e = rw e (later (walkerAfter w (Record h)) (16 + h .captured - 1))
+    go later More e = rw (e, e) tt
+    go later Bad e = rw (e, e) tt
+    go later TooLong e = rw (e, e) tt
+
+-- A step at a place
+
+-- what is passed over is dropped
+passed : (s : List ℕ) (w : Walker) (k : ℕ) → drain w k s ≡ drain w 0 (drop k s)
+unfolding drain
+passed [] w k = rw drop-nil
+passed (b ∷ s) w zero = refl
+passed (b ∷ s) w (suc k) = passed s w k
+
+first-step : (w : Walker) (s : List ℕ) → drain w 0 s ≡ drainedBy w (takenOf w s) s (drain (walkerAfter w (takenOf w s)) 0 (drop (sizeTaken (takenOf w s)) s))
+unfolding drain headerTaken recordTaken nextOf
+first-step w [] = go (w .stage)
+  where
+    go : (st : Stage) → stopped w [] ≡ drainedBy w (takenAt w st []) [] (drain (walkerAfter w (takenAt w st [])) 0 (drop (sizeTaken (takenAt w st [])) []))
+    go Header = refl
+    go (Records o) = refl
+first-step w (b ∷ s) = go (takenOf w (b ∷ s)) refl
+  where
+    onward : (v : Walker) (n : ℕ) → 1 ≤ n → drain v (n - 1) s ≡ drain v 0 (drop n (b ∷ s))
+    onward v n h =
+        let k : n ≡ suc (n - 1) = omega arith in
+        passed s v (n - 1) ∙ ap (drain v 0) (sym (ap (λ (m : ℕ). drop m (b ∷ s)) k))
+
+    go : (t : Taken) → takenOf w (b ∷ s) ≡ t
+        → drain w 0 (b ∷ s) ≡ drainedBy w t (b ∷ s) (drain (walkerAfter w t) 0 (drop (sizeTaken t) (b ∷ s)))
+    go (Opened o) e = rw e (onward (walkerAfter w (Opened o)) 24 (omega arith))
+    go (Record h) e = rw e (ap (drainedBy w (Record h) (b ∷ s)) (onward (walkerAfter w (Record h)) (16 + h .captured) (omega arith)))
+    go More e = rw e
+    go Bad e = rw e
+    go TooLong e = rw e
+
+pub one-take : (w : Walker) (window : List ℕ) (at : ℕ) → OneStep w window at
+unfolding stepOf
+one-take w window at =
+    let t = takenOf w (drop at window) in
+    first-step w (drop at window) ∙ ap (λ (s : List ℕ). drainedBy w t (drop at window) (drain (walkerAfter w t) 0 s)) (drop-drop (sizeTaken t) at window)
+
 pub windows : (pieces : List (List ℕ)) → length (flatten pieces) < 2 ^ 64 → SameWalk pieces
 windows pieces h =
     let e = at-once pieces fresh [] in
     let s = walked (flatten pieces) h in
+    let d = fed fresh [] pieces in
     record {
       records = ap (λ (d : Drained). d .records) e ∙ s .0;
       check = ap (λ (d : Drained). finishOf (d .walker) (d .rest)) e ∙ s .1;
       place = ap (λ (d : Drained). d .walker .records) e ∙ counted (flatten pieces) fresh 0 ∙ rw (e, zero-add);
+      bytes = ap (λ (d : Drained). d .walker .bytes + length (d .rest)) e ∙ weighed (flatten pieces) fresh 0 ∙ omega arith;
+      stands = subst (λ (d : Drained). Stands (takenOf (d .walker) (d .rest))) (sym e) (stops (flatten pieces) fresh 0);
+      kept = kept (d .walker) (d .rest);
     }

@@ -1,4 +1,4 @@
--- The checks of what is written, one after the other, and records written to an output. Assumes nothing.
+-- The checks of what is written, one after the other, and how long the headers are. Assumes nothing.
 use Prim.Native.Nat.{ℕ, _+_, _≤_, _<_}
 use mathlib.Core.Path.{_≡_, refl, sym, ap, _∙_}
 use mathlib.Core.List.{List, [], _∷_, _++_, append-assoc}

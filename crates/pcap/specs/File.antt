@@ -1,11 +1,11 @@
 -- Document 02, Item 3, and the classic pcap format: the file header of a capture, and numbers in either byte order.
 -- Assumes nothing.
-use Prim.Native.Nat.{ℕ, _+_, _/_, _%_}
-use mathlib.Core.List.{List, [], _∷_}
+use Prim.Native.Nat.{ℕ, _+_}
+use mathlib.Core.List.{List}
 use mathlib.Core.Bool.{Bool, cond}
 use lib.ListN.{length}
 use lib.Dec.{ltb, eqb}
-use Rattle.segment.specs.Bytes.{byteAt, long, longAt, be32}
+use Rattle.segment.specs.Bytes.{byteAt, long, longAt}
 use Rattle.pcap.specs.declared.file.ByteOrder.{ByteOrder}
 use Rattle.pcap.specs.declared.file.ByteOrder.the-variants.{LowFirst, HighFirst}
 use Rattle.pcap.specs.declared.file.FileHeader.{FileHeader}

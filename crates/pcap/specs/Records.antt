@@ -1,13 +1,14 @@
 -- Document 02, Item 3: all records of a capture, and how it ends: well, or with 14 or 15 behind the whole records before it.
 -- Assumes nothing.
 use Prim.Native.Nat.{ℕ, zero, suc, _+_, _-_}
+use mathlib.Core.Path.{_≡_}
 use mathlib.Core.List.{List, [], _∷_}
 use lib.ListN.{take, drop}
 use Rattle.segment.specs.declared.refusal.Refusal.the-variants.{BadCapture}
 use Rattle.segment.specs.declared.refusal.Check.{Check}
 use Rattle.segment.specs.declared.refusal.Check.the-variants.{Refused}
 use Rattle.pcap.specs.File.{fileHeader, headerOf}
-use Rattle.pcap.specs.Record.{recordHeader, nextOf, checkOf}
+use Rattle.pcap.specs.Record.{recordHeader, nextOf, checkOf, placeFrom, nextIn}
 use Rattle.pcap.specs.declared.file.ByteOrder.{ByteOrder}
 use Rattle.pcap.specs.declared.file.FileHeader.{FileHeader}
 use Rattle.pcap.specs.declared.file.FileHeader.the-variants as file
@@ -61,3 +62,10 @@ walkBehind (file.Good o) s = walk o fileHeader s
 -- the walk over a whole capture
 unfoldable pub capture : List ℕ → Walk
 capture s = walkBehind (headerOf s) s
+
+-- The reader, from place to place, gives the walk: the first record stands where place 0 leads, and what stands at a place goes before the walk from the
+-- place behind it. Where the file header is bad there is neither.
+pub record ReaderWalks (s : List ℕ) (o : ByteOrder) : Type 0 where
+  pub first : capture s ≡ walk o 0 (drop (placeFrom 0) s)
+  pub next : (at : ℕ) → walk o 0 (drop (placeFrom at) s)
+      ≡ joined (nextIn s at) (drop (placeFrom at) s) (walk o 0 (drop (placeFrom at + sizeOf (nextIn s at)) s))

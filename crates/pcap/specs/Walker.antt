@@ -1,6 +1,6 @@
 -- Document 02, Item 3: a capture that is read in pieces. The bytes in hand are those that the last step left and, behind them, the next piece.
 -- Assumes nothing.
-use Prim.Native.Nat.{ℕ, zero, suc, _+_, _-_, _^_}
+use Prim.Native.Nat.{ℕ, zero, suc, _+_, _-_, _<_, _^_}
 use mathlib.Core.Path.{_≡_}
 use mathlib.Core.List.{List, [], _∷_, _++_, flatten}
 use mathlib.Core.Bool.{Bool, cond, _&&_}
@@ -10,7 +10,7 @@ use Rattle.segment.specs.declared.refusal.Refusal.the-variants.{BadCapture}
 use Rattle.segment.specs.declared.refusal.Check.{Check}
 use Rattle.segment.specs.declared.refusal.Check.the-variants.{Clear, Refused}
 use Rattle.pcap.specs.File.{fileHeader, headerOf}
-use Rattle.pcap.specs.Record.{recordHeader, nextOf, checkOf}
+use Rattle.pcap.specs.Record.{recordHeader, mostCaptured, nextOf, checkOf}
 use Rattle.pcap.specs.Records.{Recorded, recordedAs, capture}
 use Rattle.pcap.specs.declared.file.ByteOrder.{ByteOrder}
 use Rattle.pcap.specs.declared.file.FileHeader.{FileHeader}
@@ -122,8 +122,26 @@ unfoldable pub fed : Walker → List ℕ → List (List ℕ) → Drained
 fed w held [] = drain w 0 held
 fed w held (p ∷ ps) = let d = drain w 0 (held ++ p) in after (d .records) (fed (d .walker) (d .rest) ps)
 
--- They give what the walk over the whole gives, and the walker's count of records is the place of the next one.
+-- a walker that cannot go on needs more bytes, or the walk is over
+abbrev pub Stands : Taken → Type 0
+Stands (Opened o) = ⊥
+Stands (Record h) = ⊥
+Stands More = Unit {0}
+Stands Bad = Unit {0}
+Stands TooLong = Unit {0}
+
+-- They give what the walk over the whole gives. The walker's count of records is the place of the next one, its count of bytes lacks those that are left; it
+-- has gone as far as it can, and where it needs more it keeps less than one record.
 pub record SameWalk (pieces : List (List ℕ)) : Type 0 where
   pub records : fed fresh [] pieces .records ≡ capture (flatten pieces) .records
   pub check : finishOf (fed fresh [] pieces .walker) (fed fresh [] pieces .rest) ≡ capture (flatten pieces) .check
   pub place : fed fresh [] pieces .walker .records ≡ length (fed fresh [] pieces .records)
+  pub bytes : fed fresh [] pieces .walker .bytes + length (fed fresh [] pieces .rest) ≡ length (flatten pieces)
+  pub stands : Stands (takenOf (fed fresh [] pieces .walker) (fed fresh [] pieces .rest))
+  pub kept : takenOf (fed fresh [] pieces .walker) (fed fresh [] pieces .rest) ≡ More → length (fed fresh [] pieces .rest) < recordHeader + mostCaptured
+
+-- A step at a place of a window is one step of those that its bytes allow.
+abbrev pub OneStep : Walker → List ℕ → ℕ → Type 0
+OneStep w window at =
+    drain w 0 (drop at window)
+    ≡ drainedBy w (stepOf w window at .taken) (drop at window) (drain (stepOf w window at .walker) 0 (drop (stepOf w window at .next) window))

@@ -4,6 +4,7 @@ use mathlib.Core.Path.{_≡_, refl, sym, ap, subst, _∙_}
 use mathlib.Core.Bool.{Bool, true, false}
 use mathlib.Core.List.{List, [], _∷_, _++_, flatten}
 use mathlib.Core.Option.{Option, none, some}
+use native.Mathlib.Omega.{arith}
 use lib.ListN.{length}
 use Rattle.segment.specs.declared.refusal.Check.the-variants.{Clear}
 use Rattle.protocol.specs.Call.{Call}
@@ -17,7 +18,7 @@ use Rattle.pcap.specs.Records.{Recorded, capture}
 use Rattle.pcap.specs.Walker.{fresh, fed}
 use Rattle.pcap.proofs.Windows.{windows}
 use Rattle.walk.specs.Feed.{callOf, feedBy, feedOf, outputBy, feedOutput}
-use Rattle.walk.specs.Walk.{Happening, happening, walked, walkedListener, before, callsOf, Answer, answers, answerIf, answersOf, WalkIsCalls, WalkDemand3, SameInPieces}
+use Rattle.walk.specs.Walk.{Happening, happening, walked, walkedListener, before, callsOf, Answer, answers, answerIf, answersOf, WalkIsCalls, WalkDemand3, LaterRecords, SameInPieces}
 use Rattle.walk.specs.declared.feed.Fed.{Fed}
 
 abbrev Are : List Recorded → ℕ → Type 0
@@ -66,7 +67,42 @@ walk-demand3 own port k calls place rs out-len e =
           walk-is-calls rs out-len (listenerAfter s calls) place .listener
           ∙ ap (λ (x : LocalEndpoint). listenerAfter (listenerAfter s calls) (callsOf x place rs out-len)) (calls-local s calls)
           ∙ sym (later-calls s calls (callsOf (s .local) place rs out-len));
+      answered =
+          walk-is-calls rs out-len (listenerAfter s calls) place .answered
+          ∙ ap (λ (x : LocalEndpoint). answers (listenerAfter s calls) (callsOf x place rs out-len)) (calls-local s calls);
       demand3 = demand3 own port k (calls ++ callsOf (s .local) place rs out-len) e;
+    }
+
+-- Places run on
+
+before-append : (o : Option Call) (cs ds : List Call) → before o (cs ++ ds) ≡ before o cs ++ ds
+before-append none cs ds = refl
+before-append (some c) cs ds = refl
+
+calls-append : (rs later : List Recorded) (out-len : ℕ) (local : LocalEndpoint) (place : ℕ)
+    → callsOf local place (rs ++ later) out-len ≡ callsOf local place rs out-len ++ callsOf local (place + length rs) later out-len
+unfolding callsOf
+calls-append [] later out-len local place = let z : place + 0 ≡ place = omega arith in rw z
+calls-append (r ∷ rs) later out-len local place =
+    let n : place + 1 + length rs ≡ place + length (r ∷ rs) = omega arith in
+    let o = callOf local place (r .seconds) (r .micros) (r .packet) out-len in
+    ap (before o) (calls-append rs later out-len local (place + 1)) ∙ before-append o (callsOf local (place + 1) rs out-len) (callsOf local (place + 1 + length rs) later out-len)
+    ∙ rw n
+
+pub later-records : (rs later : List Recorded) (out-len : ℕ) (l : Listener) (place : ℕ) → LaterRecords l place rs later out-len
+unfolding walked walkedListener callsOf
+later-records [] later out-len l place =
+    let z : place + 0 ≡ place = omega arith in
+    record { happenings = rw z; listener = rw z; calls = calls-append [] later out-len (l .local) place }
+later-records (r ∷ rs) later out-len l place =
+    let h = happening l place r out-len in
+    let m = h .outcome .listener in
+    let n : place + 1 + length rs ≡ place + length (r ∷ rs) = omega arith in
+    let i = later-records rs later out-len m (place + 1) in
+    record {
+      happenings = ap (λ (hs : List Happening). h ∷ hs) (i .happenings ∙ rw n);
+      listener = i .listener ∙ rw n;
+      calls = calls-append (r ∷ rs) later out-len (l .local) place;
     }
 
 pub same-in-pieces : (l : Listener) (pieces : List (List ℕ)) (out-len : ℕ) → length (flatten pieces) < 2 ^ 64 → SameInPieces l pieces out-len

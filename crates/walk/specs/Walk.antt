@@ -1,10 +1,10 @@
 -- Document 02, Item 3: a walk over the records of a capture, and the list of calls that demand 3 has of it.
 -- Assumes nothing.
-use Prim.Native.Nat.{ℕ, _+_, _<_, _^_}
+use Prim.Native.Nat.{ℕ, _+_}
 use mathlib.Core.Path.{_≡_}
 use mathlib.Core.List.{List, [], _∷_, _++_, flatten}
 use mathlib.Core.Option.{Option, none, some}
-use mathlib.Core.Bool.{Bool, true, false, cond}
+use mathlib.Core.Bool.{Bool, true, false}
 use lib.ListN.{length}
 use Rattle.protocol.specs.Call.{Call}
 use Rattle.protocol.specs.Step.{startOf, step, outputOf}
@@ -78,7 +78,17 @@ pub record WalkIsCalls (l : Listener) (place : ℕ) (rs : List Recorded) (out-le
 pub record WalkDemand3 (own : List ℕ) (port : ℕ) (k : List ℕ) (calls : List Call) (place : ℕ) (rs : List Recorded) (out-len : ℕ) : Type 0 where
   pub listener : walkedListener (listenerAfter (startOf own port k .listener) calls) place rs out-len
       ≡ listenerAfter (startOf own port k .listener) (calls ++ callsOf (startOf own port k .listener .local) place rs out-len)
+  pub answered : answersOf (walked (listenerAfter (startOf own port k .listener) calls) place rs out-len)
+      ≡ answers (listenerAfter (startOf own port k .listener) calls) (callsOf (startOf own port k .listener .local) place rs out-len)
   pub demand3 : Demand3 own port k (calls ++ callsOf (startOf own port k .listener .local) place rs out-len)
+
+-- Places run on, with skipped records counted: a walk over some records and then others is the walk over the first, and that over the others from the place
+-- behind them, on the listener that the first left.
+pub record LaterRecords (l : Listener) (place : ℕ) (rs later : List Recorded) (out-len : ℕ) : Type 0 where
+  pub happenings : walked l place (rs ++ later) out-len
+      ≡ walked l place rs out-len ++ walked (walkedListener l place rs out-len) (place + length rs) later out-len
+  pub listener : walkedListener l place (rs ++ later) out-len ≡ walkedListener (walkedListener l place rs out-len) (place + length rs) later out-len
+  pub calls : callsOf (l .local) place (rs ++ later) out-len ≡ callsOf (l .local) place rs out-len ++ callsOf (l .local) (place + length rs) later out-len
 
 -- And a capture that comes in pieces is walked as the whole is.
 abbrev pub SameInPieces : Listener → List (List ℕ) → ℕ → Type 0
