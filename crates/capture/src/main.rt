@@ -37,16 +37,19 @@ fn open_capture(name: &[u8]) -> i32 {
 }
 
 // With both inputs open, opens the file for the packets, if there is to be one.
-fn run_with(setup: i32, name: &[u8], capture: i32, has_out: bool) {
+fn run_with(setup: i32, setup_name: &[u8], capture: i32, name: &[u8], has_out: bool) {
     if !has_out {
         return play_and_walk(setup, capture, name, -1, b"");
     }
     let mut path = io::buffer();
     let n = os::arg(3, &mut path);
     let out_name = &path[..n];
-    // opening it would empty the capture
+    // opening it would empty them
     if is_word(out_name, name) {
         return tell_of(out_name, b": is the capture itself\n");
+    }
+    if is_word(out_name, setup_name) {
+        return tell_of(out_name, b": is the set-up itself\n");
     }
     let out = os::open_overwrite(out_name);
     if out < 0 {
@@ -56,7 +59,7 @@ fn run_with(setup: i32, name: &[u8], capture: i32, has_out: bool) {
 }
 
 // With the set-up open, opens the capture.
-fn run(setup: i32, has_out: bool) {
+fn run(setup: i32, setup_name: &[u8], has_out: bool) {
     let mut path = io::buffer();
     let n = os::arg(2, &mut path);
     let name = &path[..n];
@@ -64,7 +67,7 @@ fn run(setup: i32, has_out: bool) {
     if capture < 0 {
         return os::fail(name);
     }
-    run_with(setup, name, capture, has_out);
+    run_with(setup, setup_name, capture, name, has_out);
 }
 
 fn main() {
@@ -82,5 +85,5 @@ fn main() {
     if setup < 0 {
         return os::fail(name);
     }
-    run(setup, count == 4);
+    run(setup, name, count == 4);
 }

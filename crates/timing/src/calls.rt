@@ -33,7 +33,7 @@ fn checksum_field(written: usize, out: &[u8; 36]) -> u64 {
 }
 
 // A digest with the outcome of one more call.
-fn add(digest: u64, event: Event, written: usize, out: &[u8; 36]) -> u64 {
+pub(crate) fn add(digest: u64, event: Event, written: usize, out: &[u8; 36]) -> u64 {
     let verdict = wrapping_add_u64(wide(event_number(event)), accepted_count(event) as u64);
     let output = wrapping_add_u64(written as u64, checksum_field(written, out));
     wrapping_add_u64(digest, wrapping_add_u64(verdict, output))
@@ -56,10 +56,15 @@ fn with_share(l: Listener, share: u32) -> Listener {
     o.listener
 }
 
+// A listener as it is after its start: off, with no connection.
+pub(crate) fn first_listener() -> Listener {
+    let started = start(&data::own(), data::OWN_PORT, &data::key());
+    started.listener
+}
+
 // A listener that is on, with no connection.
 fn empty_listener() -> Listener {
-    let started = start(&data::own(), data::OWN_PORT, &data::key());
-    with_share(started.listener, 64)
+    with_share(first_listener(), 64)
 }
 
 // The cookie of the peer's address, from the SYN-ACK to a request.

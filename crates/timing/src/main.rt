@@ -3,6 +3,7 @@
 mod calls;
 mod data;
 mod pieces;
+mod records;
 
 use libc::STDOUT_FILENO;
 use text::number::Number;
@@ -15,7 +16,7 @@ fn print(text: &[u8]) {
 
 fn print_usage() {
     print(
-        b"usage: timing block|expand|checksum|options|early|turned|shared|request|repeat|completion|refusal|full|unknown COUNT LIVE PAYLOAD\n",
+        b"usage: timing block|expand|checksum|options|early|turned|shared|request|repeat|completion|refusal|full|unknown|walk COUNT LIVE PAYLOAD\n",
     );
 }
 
@@ -65,6 +66,9 @@ fn digest_of(work: &[u8], count: u64, live: u64, payload: u64) -> Digest {
     }
     if is_word(work, b"unknown") {
         return Digest::Of(calls::unknown(&peer, count, live));
+    }
+    if is_word(work, b"walk") {
+        return Digest::Of(records::walk(count));
     }
     Digest::NoWork
 }
