@@ -28,6 +28,12 @@ fn play_and_walk(setup: i32, capture: i32, name: &[u8], out: i32, out_name: &[u8
     window::walk_capture(l, capture, name, out, out_name);
 }
 
+// Whether a file that was opened can be read, which a folder cannot: nothing is printed before that is known.
+fn is_readable(fd: i32) -> bool {
+    let mut none = [0u8; 1];
+    libc::read(fd, &mut none[..0]) >= 0
+}
+
 // The capture's descriptor; `-` is standard input.
 fn open_capture(name: &[u8]) -> i32 {
     if is_word(name, b"-") {
@@ -67,6 +73,9 @@ fn run(setup: i32, setup_name: &[u8], has_out: bool) {
     if capture < 0 {
         return os::fail(name);
     }
+    if !is_readable(capture) {
+        return os::fail(name);
+    }
     run_with(setup, setup_name, capture, name, has_out);
 }
 
@@ -83,6 +92,9 @@ fn main() {
     let name = &path[..n];
     let setup = os::open_read(name);
     if setup < 0 {
+        return os::fail(name);
+    }
+    if !is_readable(setup) {
         return os::fail(name);
     }
     run(setup, name, count == 4);

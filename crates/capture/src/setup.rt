@@ -1,5 +1,5 @@
 // The set-up: its lines are played as `replay` plays them, and their answers printed.
-use libc::STDOUT_FILENO;
+use crate::line::print;
 use listener::calls::never_started;
 use player::play::play_line;
 use protocol::state::Listener;
@@ -24,7 +24,7 @@ fn print_line(l: Listener, line: &[u8], len: usize) -> Listener {
     let mut text = [0u8; TEXT];
     let p = play_line(l, line, len, &mut text);
     let n = p.len;
-    io::write_all(STDOUT_FILENO, first(&text, n));
+    print(first(&text, n));
     p.listener
 }
 

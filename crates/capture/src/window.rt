@@ -1,4 +1,5 @@
 // The walk over a capture of any size, through a window on it. The lines and the packets of a window are gathered, and written before the next read.
+use crate::line::print;
 use crate::line::put_end;
 use crate::line::put_progress;
 use crate::line::put_skipped;
@@ -114,7 +115,7 @@ fn put_record(
     put(packets, at, first(&made, n))
 }
 
-// Gathers the packet of a fed record, and the answer, if one was written, as a packet to the sender at the same time.
+// Gathers the packet of a fed record and, where there is an answer, a packet of the same time that takes it to the sender.
 fn put_packets(
     packets: &mut [u8],
     at: usize,
@@ -304,8 +305,7 @@ fn walk_window(
 
 // Writes what was gathered; where that cannot be done, says so, and answers false.
 fn write_gathered(t: Tally, out: i32, out_name: &[u8], lines: &[u8], packets: &[u8]) -> bool {
-    if !io::write_all(STDOUT_FILENO, first(lines, t.lines)) {
-        os::fail(b"standard output");
+    if !print(first(lines, t.lines)) {
         return false;
     }
     if out < 0 {
@@ -455,7 +455,7 @@ fn print_end(s: Walk, tells: bool) {
         tell_progress(w);
         io::write_all(STDERR_FILENO, b"\n");
     }
-    io::write_all(STDOUT_FILENO, first(&text, n));
+    print(first(&text, n));
 }
 
 fn is_over(s: Walk) -> bool {

@@ -1,5 +1,5 @@
-// Packets written around a TCP segment, to carry it in a capture: IPv4 with a header of 20 bytes, type of service 0, identification 0, do not fragment, time to
-// live 64 and a right checksum; IPv6 with traffic class and flow label 0, next header TCP and hop limit 64.
+// Packets written around a TCP segment, so that a capture can carry it. An IPv4 header has 20 bytes, no service, no identification, 64 hops to live, a checksum
+// that is right and the bit against fragments; an IPv6 header no class, no flow, 64 hops and TCP next.
 use crate::read::HEADER_V4;
 use crate::read::HEADER_V6;
 use crate::read::TCP;

@@ -26,7 +26,7 @@ abbrev pub longBytes : ByteOrder → ℕ → List ℕ
 longBytes LowFirst x = x % 256 ∷ x / 256 % 256 ∷ x / 65536 % 256 ∷ x / 16777216 % 256 ∷ []
 longBytes HighFirst x = be32 x
 
--- version 2.4, zone and accuracy 0, snap length 4,096, raw IP packets
+-- magic number, version in two halves, zone, accuracy, most bytes of a packet, link type
 unfoldable pub fileHeaderIn : ByteOrder → List ℕ
 fileHeaderIn o = longBytes o magic ++ (shortBytes o 2 ++ (shortBytes o 4 ++ (longBytes o 0 ++ (longBytes o 0 ++ (longBytes o mostCaptured ++ longBytes o rawIp)))))
 

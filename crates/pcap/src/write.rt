@@ -1,4 +1,4 @@
-// Captures written: low byte first, version 2.4, zone and accuracy 0, snap length 4,096, raw IP packets.
+// Captures that are written have low bytes first and 2.4 for their version. They allow packets of 4,096 bytes and leave zone and accuracy at 0.
 //
 // A write that is done leaves its bytes at the output's start and the later bytes as they were; a refused one leaves all of it.
 use crate::file::FILE_HEADER;

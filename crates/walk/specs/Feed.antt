@@ -21,7 +21,7 @@ use Rattle.walk.specs.declared.feed.Fed.{Fed}
 abbrev pub millis : ℕ → ℕ → ℕ
 millis seconds micros = seconds * 1000 + micros / 1000
 
--- our initial number is the record's place in the file, modulo 2^32
+-- our initial number: the place, in 32 bits
 abbrev pub initialNumber : ℕ → ℕ
 initialNumber place = place % 2 ^ 32
 
