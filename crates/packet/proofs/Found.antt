@@ -1,13 +1,13 @@
 -- Whether a packet is to an address, as the code decides it, and how many bytes are written. Assumes nothing.
 use Prim.Native.Nat.{ℕ, _+_, _≤_, _<_}
 use mathlib.Core.Path.{_≡_, refl, sym, ap, _∙_}
-use mathlib.Core.Bool.{Bool, true, false, cond, _&&_}
+use mathlib.Core.Bool.{Bool, true, false, cond}
 use mathlib.Core.List.{List}
 use native.Mathlib.Omega.{arith}
 use borrow.Author.Tests.{lt-ltb, le-ltb}
 use lib.ListN.{length, take, drop, length-take, length-append}
 use Rattle.lists.specs.Bytes.{sameBytes}
-use Rattle.endpoint.specs.Address.{size, block}
+use Rattle.endpoint.specs.Address.{block}
 use Rattle.endpoint.specs.declared.address.Family.{Family}
 use Rattle.endpoint.specs.declared.address.Family.the-variants.{V4, V6}
 use Rattle.endpoint.proofs.Blocks.{kept}
@@ -15,7 +15,6 @@ use Rattle.segment.specs.declared.refusal.Refusal.the-variants.{Output, BadCapt
 use Rattle.segment.specs.declared.refusal.Check.the-variants.{Clear, Refused}
 use Rattle.packet.specs.Ip.{leastHeader, headerLength, isWhole, destOf, isTo, carriedTo}
 use Rattle.packet.specs.Write.{headerV4, checkedV4, headerV6, packetBytes, packetCheck}
-use Rattle.packet.specs.declared.read.Carried.{Carried}
 use Rattle.packet.specs.declared.read.Carried.the-variants.{Tcp, Other}
 
 -- an address has at most 16 bytes

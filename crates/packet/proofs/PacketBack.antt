@@ -1,25 +1,25 @@
 -- A packet that is written is read as one to its destination, with the same segment, and an IPv4 header's sum is 65,535. Assumes nothing.
-use Prim.Native.Nat.{ℕ, _+_, _*_, _/_, _%_, _≤_, _<_}
+use Prim.Native.Nat.{ℕ, _+_, _≤_}
 use mathlib.Core.Path.{_≡_, refl, sym, ap, ap₂, _∙_}
 use mathlib.Core.Bool.{true}
 use mathlib.Core.List.{List, [], _∷_, _++_}
 use native.Mathlib.Omega.{arith}
 use borrow.Author.Tests.{le-leb, eq-eqb}
 use lib.Seq.{getD-drop, take-add, take-all, take-at}
-use lib.ListN.{length, take, drop, getD, length-drop, replicate}
-use Rattle.lists.specs.Bytes.{Bytes, sameBytes}
+use lib.ListN.{length, drop, getD, length-drop, replicate}
+use Rattle.lists.specs.Bytes.{Bytes}
 use Rattle.lists.proofs.SameBytes.{same-bytes-refl}
 use Rattle.lists.proofs.Elements.{eight}
 use Rattle.lists.proofs.ByteLists.{bytes-append, each-byte}
-use Rattle.segment.specs.Bytes.{byteAt, wordAt, word}
-use Rattle.segment.specs.Checksum.{onesSum, complement}
+use Rattle.segment.specs.Bytes.{wordAt}
+use Rattle.segment.specs.Checksum.{onesSum}
 use Rattle.segment.proofs.Folded.{sum-with-complement}
 use Rattle.segment.proofs.ReadBack.{back16}
 use Rattle.endpoint.specs.Address.{size, block}
 use Rattle.endpoint.proofs.Blocks.{block-four, block-sixteen}
 use Rattle.endpoint.specs.declared.address.Family.{Family}
 use Rattle.endpoint.specs.declared.address.Family.the-variants.{V4, V6}
-use Rattle.packet.specs.Ip.{leastHeader, headerLength, isWholeV4, isWholeV6, destOf, isTo, carriedTo}
+use Rattle.packet.specs.Ip.{leastHeader, headerLength, isWholeV4, isWholeV6, isTo, carriedTo}
 use Rattle.packet.specs.Write.{fourOf, sixteenOf, beforeCheck, headerV4, checkedV4, headerV6, packetBytes, PacketBack, HeaderSum}
 use Rattle.packet.proofs.Found.{length-v4, packet-length}
 

@@ -10,7 +10,7 @@ use Rattle.segment.specs.Checksum.{protocol, onesSum, complement}
 use Rattle.segment.specs.Refusal.{refusal}
 use Rattle.segment.specs.declared.refusal.Refusal.the-variants.{Output, BadCapture}
 use Rattle.segment.specs.declared.refusal.Check.{Check}
-use Rattle.endpoint.specs.Address.{size, block}
+use Rattle.endpoint.specs.Address.{block}
 use Rattle.endpoint.specs.declared.address.Family.{Family}
 use Rattle.endpoint.specs.declared.address.Family.the-variants.{V4, V6}
 use Rattle.pcap.specs.Record.{mostCaptured}

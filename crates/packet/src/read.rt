@@ -5,7 +5,7 @@ use endpoint::address::same_block;
 use segment::header::part;
 use segment::number::word16;
 ghost use mathlib.Core.Path.{_≡_};
-ghost use Rattle.packet.specs.Ip.{headerLength, isWholeV4, isWholeV6, isWhole, destOf, isTo, carriedTo, sourceOf, tcpOf};
+ghost use Rattle.packet.specs.Ip.{headerLength, isWholeV4, isWholeV6, isWhole, destOf, carriedTo, sourceOf, tcpOf};
 
 // TCP's number among the protocols.
 pub(crate) const TCP: u8 = 6;

@@ -15,7 +15,6 @@ ghost use mathlib.Core.List.{_++_};
 ghost use Prim.Native.Nat.{_+_, _≤_};
 ghost use lib.ListN.{length};
 ghost use Rattle.lists.specs.Bytes.{overwrite};
-ghost use Rattle.segment.specs.Checksum.{onesSum, complement};
 ghost use Rattle.pcap.specs.Write.{putBy, writing};
 ghost use Rattle.packet.specs.Ip.{leastHeader};
 ghost use Rattle.packet.specs.Write.{headerV4, headerV6, checkedV4, packetCheck, packetBytes};

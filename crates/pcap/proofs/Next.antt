@@ -1,14 +1,13 @@
 -- What stands at the start of what is left of a capture, case by case; more bytes behind a whole record change nothing. Assumes nothing.
 use Prim.Native.Nat.{ℕ, _+_, _-_, _≤_, _<_}
-use mathlib.Core.Path.{_≡_, refl, sym, ap, _∙_}
+use mathlib.Core.Path.{_≡_, refl, ap, _∙_}
 use mathlib.Core.Bool.{Bool, true, false, cond}
 use mathlib.Core.List.{List, _++_}
 use native.Mathlib.Omega.{arith}
 use borrow.Author.Tests.{lt-ltb, le-ltb, eq-eqb, ne-eqb, ltb-true, ltb-false, eqb-true}
 use lib.Dec.{ltb, eqb}
 use lib.Seq.{take-append-le, drop-append-le}
-use lib.ListN.{length, take, drop, getD, length-append, length-drop, List·getD-append}
-use Rattle.segment.specs.Bytes.{long}
+use lib.ListN.{length, drop, getD, length-append, length-drop, List·getD-append}
 use Rattle.pcap.specs.File.{longIn}
 use Rattle.pcap.specs.Record.{headOf, bodied, nextOf}
 use Rattle.pcap.specs.Records.{packetOf}

@@ -1,7 +1,6 @@
 -- Records that are written read back, in either byte order. Assumes nothing.
-use Prim.Native.Nat.{ℕ, zero, suc, _+_, _-_, _≤_, _<_}
+use Prim.Native.Nat.{ℕ, zero, suc, _+_, _-_}
 use mathlib.Core.Path.{_≡_, refl, sym, ap, _∙_}
-use mathlib.Core.Bool.{Bool}
 use mathlib.Core.List.{List, [], _∷_, _++_, append-assoc, flatMap}
 use native.Mathlib.Omega.{arith}
 use lib.Seq.{take-append-seam, drop-at, drop-drop, drop-nil}
@@ -9,10 +8,10 @@ use lib.ListN.{length, take, drop, length-append}
 use Rattle.lists.proofs.Sums.{All}
 use Rattle.segment.specs.declared.refusal.Check.the-variants.{Clear}
 use Rattle.segment.proofs.ReadBack.{back32}
-use Rattle.pcap.specs.File.{longIn, linked, headerOf}
+use Rattle.pcap.specs.File.{linked, headerOf}
 use Rattle.pcap.specs.Record.{headOf, bodied, nextOf, placeFrom, nextIn}
-use Rattle.pcap.specs.Records.{Recorded, packetOf, recordedAs, sizeOf, Walk, joined, walk, walkBehind, capture, ReaderWalks}
-use Rattle.pcap.specs.Write.{longBytes, headIn, recordIn, fileHeaderIn, Fits, captureIn, ReadsBack}
+use Rattle.pcap.specs.Records.{Recorded, packetOf, sizeOf, joined, walk, walkBehind, capture, ReaderWalks}
+use Rattle.pcap.specs.Write.{headIn, recordIn, fileHeaderIn, Fits, ReadsBack}
 use Rattle.pcap.specs.declared.file.ByteOrder.{ByteOrder}
 use Rattle.pcap.specs.declared.file.ByteOrder.the-variants.{LowFirst, HighFirst}
 use Rattle.pcap.specs.declared.file.FileHeader.{FileHeader}

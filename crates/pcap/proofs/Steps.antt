@@ -1,17 +1,17 @@
 -- The reader's and the walker's steps, as the code decides them. Assumes nothing.
 use Prim.Native.Nat.{ℕ, _+_, _-_, _≤_, _<_, _^_}
-use mathlib.Core.Path.{_≡_, refl, sym, ap, subst, _∙_}
-use mathlib.Core.Bool.{true, false, cond, _&&_, and-false}
+use mathlib.Core.Path.{_≡_, refl, sym, ap, _∙_}
+use mathlib.Core.Bool.{true, false}
 use mathlib.Core.List.{List}
 use native.Mathlib.Omega.{arith}
 use native.Mathlib.Nat.{add-zero}
 use borrow.Author.Tests.{lt-ltb, le-ltb, ltb-true, le-leb, leb-true}
 use lib.Dec.{ltb, leb}
-use lib.ListN.{length, drop, length-drop}
+use lib.ListN.{length, drop}
 use Rattle.lists.proofs.Bools.{and-true, one-test}
 use Rattle.pcap.specs.File.{headerOf}
-use Rattle.pcap.specs.Record.{placeFrom, nextBehind, nextOf, nextIn}
-use Rattle.pcap.specs.Walker.{hasRoom, openedBy, headerTaken, nextTaken, recordTaken, takenAt, takenOf, sizeTaken, walkerAfter, stepBy, stepOf, finishAt, finishOf}
+use Rattle.pcap.specs.Record.{nextBehind, nextOf, nextIn}
+use Rattle.pcap.specs.Walker.{hasRoom, openedBy, headerTaken, nextTaken, recordTaken, takenAt, sizeTaken, walkerAfter, stepBy, stepOf, finishAt, finishOf}
 use Rattle.pcap.specs.declared.file.ByteOrder.{ByteOrder}
 use Rattle.pcap.specs.declared.file.FileHeader.{FileHeader}
 use Rattle.pcap.specs.declared.file.FileHeader.the-variants as file
@@ -19,12 +19,10 @@ use Rattle.pcap.specs.declared.record.RecordHead.{RecordHead}
 use Rattle.pcap.specs.declared.record.Next.{Next}
 use Rattle.pcap.specs.declared.record.Next.the-variants as next
 use Rattle.pcap.specs.declared.walker.Stage.{Stage}
-use Rattle.pcap.specs.declared.walker.Stage.the-variants.{Header, Records}
 use Rattle.pcap.specs.declared.walker.Walker.{Walker}
 use Rattle.pcap.specs.declared.walker.Taken.{Taken}
 use Rattle.pcap.specs.declared.walker.Taken.the-variants.{Opened, Record, More, Bad, TooLong}
 use Rattle.pcap.specs.declared.walker.Step.{Step}
-use Rattle.pcap.proofs.Next.{Whole, whole}
 
 -- The reader, by the file header
 pub behind : (s : List ℕ) (at : ℕ) (f : FileHeader) → headerOf s ≡ f → nextIn s at ≡ nextBehind f s at

@@ -5,15 +5,14 @@ use mathlib.Core.Bool.{Bool, true, false, cond}
 use mathlib.Core.List.{List, [], _∷_, _++_, append-nil, append-assoc, flatten}
 use native.Mathlib.Omega.{arith}
 use native.Mathlib.Nat.{zero-add}
-use borrow.Author.Tests.{lt-ltb, le-ltb, ltb-true, ltb-false}
+use borrow.Author.Tests.{le-ltb, ltb-true, ltb-false}
 use lib.Dec.{ltb}
-use lib.Seq.{drop-append-le, drop-nil, drop-drop}
-use lib.ListN.{length, drop, length-append, length-drop}
-use Rattle.segment.specs.declared.refusal.Check.{Check}
-use Rattle.pcap.specs.File.{longIn, begins, linked, headerOf}
+use lib.Seq.{drop-nil, drop-drop}
+use lib.ListN.{length, drop, length-append}
+use Rattle.pcap.specs.File.{linked, headerOf}
 use Rattle.pcap.specs.Record.{nextOf, checkOf}
-use Rattle.pcap.specs.Records.{Recorded, packetOf, recordedAs, sizeOf, Walk, joined, walk, walkBehind, capture}
-use Rattle.pcap.specs.Walker.{fresh, hasRoom, openedBy, headerTaken, nextTaken, recordTaken, takenAt, takenOf, sizeTaken, walkerAfter, finishAt, finishOf, Drained, stopped, drainedBy, drain, after, fed, Stands, SameWalk, stepOf, OneStep}
+use Rattle.pcap.specs.Records.{Recorded, packetOf, recordedAs, Walk, walk, capture}
+use Rattle.pcap.specs.Walker.{fresh, hasRoom, openedBy, headerTaken, nextTaken, recordTaken, takenAt, takenOf, sizeTaken, walkerAfter, finishOf, Drained, stopped, drainedBy, drain, after, fed, Stands, SameWalk, stepOf, OneStep}
 use Rattle.pcap.specs.declared.file.ByteOrder.{ByteOrder}
 use Rattle.pcap.specs.declared.file.ByteOrder.the-variants.{LowFirst, HighFirst}
 use Rattle.pcap.specs.declared.file.FileHeader.{FileHeader}
@@ -26,8 +25,8 @@ use Rattle.pcap.specs.declared.walker.Stage.the-variants.{Header, Record
 use Rattle.pcap.specs.declared.walker.Walker.{Walker}
 use Rattle.pcap.specs.declared.walker.Taken.{Taken}
 use Rattle.pcap.specs.declared.walker.Taken.the-variants.{Opened, Record, More, Bad, TooLong}
-use Rattle.pcap.proofs.Next.{Whole, whole, cut-short, none-left, long-append, next-append, packet-append}
-use Rattle.pcap.proofs.Steps.{Room, has-room}
+use Rattle.pcap.proofs.Next.{whole, cut-short, none-left, long-append, next-append, packet-append}
+use Rattle.pcap.proofs.Steps.{has-room}
 
 -- More bytes behind those in hand
 

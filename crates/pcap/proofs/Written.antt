@@ -1,19 +1,13 @@
 -- The checks of what is written, one after the other, and how long the headers are. Assumes nothing.
 use Prim.Native.Nat.{ℕ, _+_, _≤_, _<_}
-use mathlib.Core.Path.{_≡_, refl, sym, ap, _∙_}
-use mathlib.Core.List.{List, [], _∷_, _++_, append-assoc}
-use native.Mathlib.Omega.{arith}
+use mathlib.Core.Path.{_≡_, refl}
 use borrow.Author.Tests.{lt-ltb, le-ltb}
-use lib.Seq.{drop-at, take-at, drop-drop}
-use lib.ListN.{length, take, drop, length-append}
-use Rattle.lists.specs.Bytes.{overwrite}
+use lib.ListN.{length}
 use Rattle.segment.specs.declared.refusal.Refusal.the-variants.{Output, BadCapture}
-use Rattle.segment.specs.declared.refusal.Check.{Check}
 use Rattle.segment.specs.declared.refusal.Check.the-variants.{Clear, Refused}
-use Rattle.pcap.specs.Write.{longBytes, headIn, fileHeaderIn, fileHeaderBytes, headBytes, fileCheck, recordCheck, putBy, writing}
+use Rattle.pcap.specs.Write.{headIn, fileHeaderIn, fileCheck, recordCheck}
 use Rattle.pcap.specs.declared.file.ByteOrder.{ByteOrder}
 use Rattle.pcap.specs.declared.file.ByteOrder.the-variants.{LowFirst, HighFirst}
-use Rattle.pcap.specs.declared.write.Written.{Written}
 
 pub file-refused : (room : ℕ) → room < 24 → fileCheck room ≡ Refused Output
 file-refused room h = rw (lt-ltb room 24 h)

@@ -1,13 +1,12 @@
 -- A record fed to a listener, as the code decides it. Assumes nothing.
 use Prim.Native.Nat.{ℕ}
-use mathlib.Core.Path.{_≡_, refl, sym, ap, _∙_}
+use mathlib.Core.Path.{_≡_, sym, _∙_}
 use mathlib.Core.Bool.{true, false}
-use mathlib.Core.List.{List, []}
-use mathlib.Core.Option.{Option, none, some}
+use mathlib.Core.List.{List}
 use lib.ListN.{length}
 use Rattle.lists.specs.Bytes.{overwrite}
 use Rattle.segment.specs.declared.refusal.Refusal.the-variants.{NotStarted}
-use Rattle.protocol.specs.Call.{Call, segment}
+use Rattle.protocol.specs.Call.{segment}
 use Rattle.protocol.specs.Step.{step, outputOf}
 use Rattle.protocol.specs.declared.state.Listener.{Listener}
 use Rattle.protocol.specs.declared.outcome.Outcome.{Outcome}
@@ -15,7 +14,7 @@ use Rattle.protocol.specs.declared.outcome.Event.the-variants as events
 use Rattle.packet.specs.Ip.{sourceOf, carriedTo, tcpOf}
 use Rattle.packet.specs.declared.read.Carried.{Carried}
 use Rattle.packet.specs.declared.read.Carried.the-variants.{Tcp, Other}
-use Rattle.walk.specs.Feed.{millis, initialNumber, calledBy, callIf, callOf, skippedWith, feedBy, feedOf, outputBy, feedOutput}
+use Rattle.walk.specs.Feed.{millis, initialNumber, callOf, skippedWith, feedOf, feedOutput}
 use Rattle.walk.specs.declared.feed.Fed.{Fed}
 
 module _ (l : Listener) (place seconds micros : ℕ) (packet out : List ℕ) where

@@ -1,7 +1,6 @@
 -- A walk is its calls, demand 3 holds of it, and pieces are walked as the whole is. Assumes nothing.
 use Prim.Native.Nat.{ℕ, _+_, _<_, _^_}
 use mathlib.Core.Path.{_≡_, refl, sym, ap, subst, _∙_}
-use mathlib.Core.Bool.{Bool, true, false}
 use mathlib.Core.List.{List, [], _∷_, _++_, flatten}
 use mathlib.Core.Option.{Option, none, some}
 use native.Mathlib.Omega.{arith}
@@ -9,17 +8,15 @@ use lib.ListN.{length}
 use Rattle.segment.specs.declared.refusal.Check.the-variants.{Clear}
 use Rattle.protocol.specs.Call.{Call}
 use Rattle.protocol.specs.Step.{startOf, step, outputOf}
-use Rattle.protocol.specs.Demand3.{listenerAfter, Demand3}
+use Rattle.protocol.specs.Demand3.{listenerAfter}
 use Rattle.protocol.proofs.Demand3.{demand3}
 use Rattle.protocol.proofs.Local.{step-local}
 use Rattle.protocol.specs.declared.state.LocalEndpoint.{LocalEndpoint}
 use Rattle.protocol.specs.declared.state.Listener.{Listener}
-use Rattle.pcap.specs.Records.{Recorded, capture}
-use Rattle.pcap.specs.Walker.{fresh, fed}
+use Rattle.pcap.specs.Records.{Recorded}
 use Rattle.pcap.proofs.Windows.{windows}
-use Rattle.walk.specs.Feed.{callOf, feedBy, feedOf, outputBy, feedOutput}
-use Rattle.walk.specs.Walk.{Happening, happening, walked, walkedListener, before, callsOf, Answer, answers, answerIf, answersOf, WalkIsCalls, WalkDemand3, LaterRecords, SameInPieces}
-use Rattle.walk.specs.declared.feed.Fed.{Fed}
+use Rattle.walk.specs.Feed.{callOf, feedOf, feedOutput}
+use Rattle.walk.specs.Walk.{Happening, happening, walked, walkedListener, before, callsOf, Answer, answers, answersOf, WalkIsCalls, WalkDemand3, LaterRecords, SameInPieces}
 
 abbrev Are : List Recorded → ℕ → Type 0
 Are rs out-len = (l : Listener) (place : ℕ) → WalkIsCalls l place rs out-len

@@ -3,7 +3,7 @@
 use Prim.Native.Nat.{ℕ, _+_, _*_, _/_, _%_, _^_}
 use mathlib.Core.List.{List, []}
 use mathlib.Core.Option.{Option, none, some}
-use mathlib.Core.Bool.{Bool, true, false, cond}
+use mathlib.Core.Bool.{Bool, true, false}
 use Rattle.segment.specs.Remarks.{noRemarks}
 use Rattle.segment.specs.declared.refusal.Refusal.the-variants.{NotStarted}
 use Rattle.protocol.specs.Call.{Call, segment}

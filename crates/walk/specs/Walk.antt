@@ -15,7 +15,6 @@ use Rattle.protocol.specs.declared.outcome.Outcome.{Outcome}
 use Rattle.pcap.specs.Records.{Recorded, capture}
 use Rattle.pcap.specs.Walker.{fresh, fed}
 use Rattle.walk.specs.Feed.{callOf, feedOf, feedOutput}
-use Rattle.walk.specs.declared.feed.Fed.{Fed}
 
 -- what happened: a record was fed or skipped, with its outcome and the bytes that were written
 pub record Happening : Type 0 where

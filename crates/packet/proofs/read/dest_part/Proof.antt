@@ -1,6 +1,5 @@
 -- `packet::read::dest_part` meets its contract: by the family.
 -- Assumes nothing.
-use mathlib.Core.Path.{_≡_}
 use borrow.Author.Needs.{needs}
 use Rattle.packet.proofs.read.dest_part.Statement.{statement}
 use Rattle.packet.proofs.read.dest_part.Tie as tie

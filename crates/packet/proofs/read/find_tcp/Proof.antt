@@ -1,10 +1,8 @@
 -- `packet::read::find_tcp` meets its contract: one test after the other.
 -- Assumes nothing.
-use Prim.Native.Nat.{ℕ, _≤_}
-use mathlib.Core.Path.{_≡_, refl, sym, ap, _∙_}
-use mathlib.Core.Bool.{Bool, true, false}
+use mathlib.Core.Path.{sym, _∙_}
+use mathlib.Core.Bool.{true, false}
 use borrow.Author.Tests.{not-true, not-false}
-use lib.ListN.{length}
 use Rattle.packet.proofs.Found.{not-whole, decided}
 use borrow.Author.Needs.{needs}
 use Rattle.packet.proofs.read.find_tcp.Statement.{statement}

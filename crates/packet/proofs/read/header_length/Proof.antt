@@ -1,6 +1,5 @@
 -- `packet::read::header_length` meets its contract.
 -- Assumes nothing.
-use mathlib.Core.Path.{_≡_, refl, sym}
 use native.Mathlib.Omega.{arith}
 use lib.ListN.{List·getD-eq-default}
 use Rattle.packet.specs.Ip.{headerLength}

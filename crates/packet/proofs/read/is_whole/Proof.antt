@@ -1,6 +1,5 @@
 -- `packet::read::is_whole` meets its contract: by the family.
 -- Assumes nothing.
-use mathlib.Core.Path.{_≡_}
 use borrow.Author.Needs.{needs}
 use Rattle.packet.proofs.read.is_whole.Statement.{statement}
 use Rattle.packet.proofs.read.is_whole.Tie as tie

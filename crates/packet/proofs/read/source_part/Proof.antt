@@ -1,6 +1,5 @@
 -- `packet::read::source_part` meets its contract: by the family.
 -- Assumes nothing.
-use mathlib.Core.Path.{_≡_}
 use borrow.Author.Needs.{needs}
 use Rattle.packet.proofs.read.source_part.Statement.{statement}
 use Rattle.packet.proofs.read.source_part.Tie as tie

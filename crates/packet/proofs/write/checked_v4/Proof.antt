@@ -1,7 +1,7 @@
 -- `packet::write::checked_v4` meets its contract.
 -- Assumes nothing.
 use Prim.Native.Nat.{ℕ}
-use mathlib.Core.Path.{_≡_, ap, _∙_}
+use mathlib.Core.Path.{ap, _∙_}
 use Rattle.segment.specs.Checksum.{onesSum, complement}
 use Rattle.packet.specs.Write.{headerV4, checkedV4}
 use borrow.Author.Needs.{needs}

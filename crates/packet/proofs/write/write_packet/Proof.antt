@@ -1,12 +1,10 @@
 -- `packet::write::write_packet` meets its contract: one check after the other.
 -- Assumes nothing.
-use Prim.Native.Nat.{ℕ, _+_, _≤_}
-use mathlib.Core.Path.{_≡_, refl, sym, ap, _∙_}
+use Prim.Native.Nat.{ℕ, _+_}
+use mathlib.Core.Path.{refl, sym, ap, _∙_}
 use native.Mathlib.Omega.{arith}
 use lib.ListN.{length}
 use Rattle.segment.specs.declared.refusal.Check.the-variants.{Clear}
-use Rattle.pcap.specs.declared.write.Written.{Written}
-use Rattle.packet.specs.Ip.{leastHeader}
 use Rattle.packet.proofs.Found.{packet-over, packet-none, packet-clear, packet-length, header-bounds}
 use borrow.Author.Needs.{needs}
 use Rattle.packet.proofs.write.write_packet.Statement.{statement}

@@ -1,6 +1,6 @@
 -- `pcap::file::check_link` meets its contract.
 -- Assumes nothing.
-use mathlib.Core.Path.{_≡_, sym, _∙_}
+use mathlib.Core.Path.{sym, _∙_}
 use borrow.Author.Tests.{eq-eqb, ne-eqb}
 use Rattle.pcap.specs.File.{longIn, linked}
 use borrow.Author.Needs.{needs}

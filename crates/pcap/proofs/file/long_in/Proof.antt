@@ -1,6 +1,5 @@
 -- `pcap::file::long_in` meets its contract.
 -- Assumes nothing.
-use mathlib.Core.Path.{_≡_}
 use borrow.Author.Needs.{needs}
 use Rattle.pcap.proofs.file.long_in.Statement.{statement}
 use Rattle.pcap.proofs.file.long_in.Tie as tie

@@ -1,6 +1,5 @@
 -- `pcap::record::check_of` meets its contract: one case for each variant.
 -- Assumes nothing.
-use mathlib.Core.Path.{refl}
 use borrow.Author.Needs.{needs}
 use Rattle.pcap.proofs.record.check_of.Statement.{statement}
 use Rattle.pcap.proofs.record.check_of.Tie as tie

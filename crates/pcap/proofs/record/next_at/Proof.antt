@@ -1,7 +1,7 @@
 -- `pcap::record::next_at` meets its contract.
 -- Assumes nothing.
 use Prim.Native.Nat.{ℕ}
-use mathlib.Core.Path.{_≡_, sym, ap, _∙_}
+use mathlib.Core.Path.{sym, ap, _∙_}
 use mathlib.Core.List.{List}
 use lib.ListN.{drop}
 use Rattle.pcap.specs.Record.{nextOf}

@@ -1,12 +1,10 @@
 -- `pcap::record::next_record` meets its contract: one case for each way out.
 -- Assumes nothing.
-use Prim.Native.Nat.{_-_, _≤_}
-use mathlib.Core.Path.{_≡_, sym, ap, _∙_}
+use Prim.Native.Nat.{_-_}
+use mathlib.Core.Path.{sym, _∙_}
 use native.Mathlib.Omega.{arith}
-use lib.ListN.{length}
-use Rattle.pcap.specs.Record.{headOf, bodied}
+use Rattle.pcap.specs.Record.{headOf}
 use Rattle.pcap.proofs.Next.{next-none, next-short, next-headed, body-over, body-cut, body-whole}
-use Rattle.pcap.specs.declared.record.RecordHead.{RecordHead}
 use borrow.Author.Needs.{needs}
 use Rattle.pcap.proofs.record.next_record.Statement.{statement}
 use Rattle.pcap.proofs.record.next_record.Tie as tie

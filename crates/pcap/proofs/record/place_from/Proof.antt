@@ -1,8 +1,6 @@
 -- `pcap::record::place_from` meets its contract.
 -- Assumes nothing.
-use mathlib.Core.Path.{_≡_}
 use borrow.Author.Tests.{lt-ltb, le-ltb}
-use borrow.Author.Needs.{needs}
 use Rattle.pcap.proofs.record.place_from.Statement.{statement}
 use Rattle.pcap.proofs.record.place_from.Tie as tie
 

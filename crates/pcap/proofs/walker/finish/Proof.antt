@@ -1,13 +1,9 @@
 -- `pcap::walker::finish` meets its contract: by its stage.
 -- Assumes nothing.
-use Prim.Native.Nat.{ℕ}
-use mathlib.Core.Path.{_≡_, sym, ap, _∙_}
-use mathlib.Core.List.{List}
+use mathlib.Core.Path.{sym, ap, _∙_}
 use Rattle.pcap.specs.File.{headerOf}
 use Rattle.pcap.specs.Record.{nextOf, checkOf}
 use Rattle.pcap.specs.Walker.{headerCheck}
-use Rattle.pcap.specs.declared.file.FileHeader.{FileHeader}
-use Rattle.pcap.specs.declared.record.Next.{Next}
 use Rattle.pcap.proofs.Steps.{finish-staged}
 use borrow.Author.Needs.{needs}
 use Rattle.pcap.proofs.walker.finish.Statement.{statement}

@@ -1,7 +1,6 @@
 -- `pcap::walker::has_room` meets its contract.
 -- Assumes nothing.
-use Prim.Native.Nat.{_<_}
-use mathlib.Core.Path.{_≡_, sym}
+use mathlib.Core.Path.{sym}
 use native.Mathlib.Omega.{arith}
 use Rattle.pcap.proofs.Steps.{records-full, bytes-fit}
 use borrow.Author.Needs.{needs}

@@ -1,11 +1,10 @@
 -- `pcap::walker::take_header` meets its contract: one case for each way out.
 -- Assumes nothing.
-use Prim.Native.Nat.{_≤_}
-use mathlib.Core.Path.{_≡_, sym, ap, _∙_}
+use mathlib.Core.Path.{sym, ap, _∙_}
 use native.Mathlib.Omega.{arith}
 use borrow.Author.Tests.{not-true, not-false}
 use lib.ListN.{length, length-drop}
-use Rattle.pcap.proofs.Steps.{Room, room, header-more, header-bad, header-full, header-good}
+use Rattle.pcap.proofs.Steps.{room, header-more, header-bad, header-full, header-good}
 use borrow.Author.Needs.{needs}
 use Rattle.pcap.proofs.walker.take_header.Statement.{statement}
 use Rattle.pcap.proofs.walker.take_header.Tie as tie

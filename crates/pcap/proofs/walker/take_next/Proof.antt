@@ -1,6 +1,6 @@
 -- `pcap::walker::take_next` meets its contract: by its stage.
 -- Assumes nothing.
-use mathlib.Core.Path.{_≡_, sym, _∙_}
+use mathlib.Core.Path.{sym, _∙_}
 use Rattle.pcap.proofs.Steps.{staged}
 use borrow.Author.Needs.{needs}
 use Rattle.pcap.proofs.walker.take_next.Statement.{statement}

@@ -1,13 +1,13 @@
 -- `pcap::walker::take_record` meets its contract: one case for each way out.
 -- Assumes nothing.
-use Prim.Native.Nat.{_+_, _≤_}
-use mathlib.Core.Path.{_≡_, sym, ap, _∙_}
+use Prim.Native.Nat.{_+_}
+use mathlib.Core.Path.{sym, ap, _∙_}
 use native.Mathlib.Omega.{arith}
 use borrow.Author.Tests.{not-true, not-false}
-use lib.ListN.{length, length-drop, drop}
+use lib.ListN.{length-drop, drop}
 use Rattle.pcap.specs.Record.{nextOf}
-use Rattle.pcap.proofs.Next.{Whole, whole}
-use Rattle.pcap.proofs.Steps.{Room, room, record-end, record-cut, record-bad, record-full, record-taken}
+use Rattle.pcap.proofs.Next.{whole}
+use Rattle.pcap.proofs.Steps.{room, record-end, record-cut, record-bad, record-full, record-taken}
 use borrow.Author.Needs.{needs}
 use Rattle.pcap.proofs.walker.take_record.Statement.{statement}
 use Rattle.pcap.proofs.walker.take_record.Tie as tie

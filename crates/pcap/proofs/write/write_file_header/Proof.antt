@@ -1,6 +1,6 @@
 -- `pcap::write::write_file_header` meets its contract.
 -- Assumes nothing.
-use mathlib.Core.Path.{_≡_, refl}
+use mathlib.Core.Path.{refl}
 use lib.ListN.{length}
 use Rattle.pcap.specs.Write.{fileHeaderIn}
 use Rattle.pcap.proofs.Written.{file-refused, file-clear}

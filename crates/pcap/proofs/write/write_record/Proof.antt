@@ -1,6 +1,6 @@
 -- `pcap::write::write_record` meets its contract.
 -- Assumes nothing.
-use Prim.Native.Nat.{ℕ, _+_, _≤_}
+use Prim.Native.Nat.{ℕ, _+_}
 use mathlib.Core.Path.{_≡_, refl, sym, ap, _∙_}
 use mathlib.Core.List.{List, _++_}
 use native.Mathlib.Omega.{arith}
@@ -9,7 +9,6 @@ use Rattle.segment.specs.declared.refusal.Check.the-variants.{Clear}
 use Rattle.lists.specs.Bytes.{overwrite}
 use Rattle.lists.proofs.Lent.{headed}
 use Rattle.pcap.specs.Write.{headBytes}
-use Rattle.pcap.specs.declared.write.Written.{Written}
 use Rattle.pcap.specs.declared.file.ByteOrder.the-variants.{LowFirst}
 use Rattle.pcap.proofs.Written.{record-over, record-none, record-clear, head-length}
 use borrow.Author.Needs.{needs}

@@ -1,8 +1,6 @@
 -- `walk::feed::feed` meets its contract: never started, not to us, or a segment call.
 -- Assumes nothing.
-use mathlib.Core.Path.{_≡_, sym, _∙_}
 use borrow.Author.Tests.{not-true, not-false}
-use lib.ListN.{length}
 use Rattle.walk.proofs.Fed.{never, other, called}
 use borrow.Author.Needs.{needs}
 use Rattle.walk.proofs.feed.feed.Statement.{statement}

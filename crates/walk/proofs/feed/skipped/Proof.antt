@@ -1,6 +1,5 @@
 -- `walk::feed::skipped` meets its contract.
 -- Assumes nothing.
-use mathlib.Core.Path.{_≡_}
 use borrow.Author.Needs.{needs}
 use Rattle.walk.proofs.feed.skipped.Statement.{statement}
 use Rattle.walk.proofs.feed.skipped.Tie as tie
