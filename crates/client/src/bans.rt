@@ -10,7 +10,7 @@ use endpoint::address::same_name;
 pub const BAN_TIME: u64 = 600000;
 
 // A server's name, the address by its block, and the time at which the ban ends.
-#[derive(Drop)]
+#[derive(Clone, Copy, Drop)]
 pub struct Ban {
     pub addr: [u8; 16],
     pub port: u16,

@@ -8,7 +8,7 @@ use segment::options::{Coding, Mss, first_mss, is_cookie_length};
 use segment::write::option_length;
 
 // What is stored for a server address, by its block: a cookie, of which the first `len` bytes count, and a maximum segment size if one was received.
-#[derive(Drop)]
+#[derive(Clone, Copy, Drop)]
 pub struct Entry {
     pub used: bool,
     pub addr: [u8; 16],

@@ -17,7 +17,7 @@ pub struct ActiveOpen {
 }
 
 // Document 01's attempt, the opening that a segment answers: own port, the server's port, our initial number, and how many bytes of data were sent with it.
-#[derive(Drop)]
+#[derive(Clone, Copy, Drop)]
 pub struct Attempt {
     pub source: u16,
     pub dest: u16,

@@ -7,7 +7,7 @@ use endpoint::address::Family;
 pub const PLACES: usize = 32;
 
 // The cookie cache, the most recent first; the bans; what the start fixed; and the last accepted time.
-#[derive(Drop)]
+#[derive(Clone, Copy, Drop)]
 pub struct Memory {
     pub cache: [Entry; PLACES],
     pub bans: [Ban; PLACES],

@@ -1,5 +1,6 @@
 // Plays a script of the calls on a client's memory from standard input and prints a line for each: what the call came to. A line is answered as soon as it is
 // complete, so that the program can be driven through a pipe.
+#![tactic(auto)]
 ghost use Rattle.std.specs.Prelude.{◌-◌, ◌≤◌};
 
 use client::calls::never_started;

@@ -6,7 +6,7 @@ use crate::difference::Difference;
 use std::num::wrapping_add_u64;
 
 // How many pairs were looked at, the unpaired ones with them; how many entries are listed, and how many more there are.
-#[derive(Drop)]
+#[derive(Clone, Copy, Drop)]
 pub struct Tally {
     pub pairs: u64,
     pub listed: usize,

@@ -19,7 +19,7 @@ use walk::feed::accepted_in;
 const LENT: usize = 64;
 
 // Both sides, and the list so far.
-#[derive(Drop)]
+#[derive(Clone, Copy, Drop)]
 pub struct Comparison {
     pub first: Site,
     pub second: Site,
@@ -27,14 +27,14 @@ pub struct Comparison {
 }
 
 // How the two captures ended.
-#[derive(Drop)]
+#[derive(Clone, Copy, Drop)]
 pub struct Ends {
     pub first: Check,
     pub second: Check,
 }
 
 // What a turn came to: it went on; the first or the second window needs more bytes; or both captures are over.
-#[derive(Drop)]
+#[derive(Clone, Copy, Drop)]
 pub enum Turn {
     Went,
     NeedsFirst,
@@ -43,7 +43,7 @@ pub enum Turn {
 }
 
 // The comparison next, what the turn came to, and the places in both windows where it goes on.
-#[derive(Drop)]
+#[derive(Clone, Copy, Drop)]
 pub struct Advance {
     pub comparison: Comparison,
     pub turn: Turn,

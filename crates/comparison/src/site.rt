@@ -13,7 +13,7 @@ use std::num::wrapping_add_u64;
 use walk::feed::{feed, is_fed};
 
 // The listener, how far the walk is, and how many records were fed.
-#[derive(Drop)]
+#[derive(Clone, Copy, Drop)]
 pub struct Site {
     pub listener: Listener,
     pub walker: Walker,
@@ -22,7 +22,7 @@ pub struct Site {
 
 // What stands at a place of the window: the file header or a record that is skipped; a record that is to be fed; not enough bytes yet; or the capture is
 // over, with its number.
-#[derive(Drop)]
+#[derive(Clone, Copy, Drop)]
 pub enum Stand {
     Passed,
     Fed(RecordHead),
@@ -39,7 +39,7 @@ pub struct Look {
 }
 
 // A record was fed: the site next, what happened, and how many bytes were written.
-#[derive(Drop)]
+#[derive(Clone, Copy, Drop)]
 pub struct Judging {
     pub site: Site,
     pub event: Event,

@@ -3,8 +3,10 @@ ghost use Rattle.std.specs.Prelude.{◌≡◌, take};
 ghost use Rattle.lists.specs.Bytes.{same_bytes};
 ghost use Rattle.endpoint.specs.Address.{size, is_size, family_of, is_address, block, same_name};
 
+use lists::copy::copy;
+
 // The family of addresses that is fixed at the start.
-#[derive(Drop)]
+#[derive(Clone, Copy, Drop)]
 pub enum Family {
     V4,
     V6,
@@ -49,7 +51,7 @@ pub fn block_of(addr: &[u8]) -> [u8; 16]
 {
     let mut b = [0u8; 16];
     let n = if 16 < addr.len() { 16 } else { addr.len() };
-    bytes::copy(&addr[..n], &mut b);
+    copy(&addr[..n], &mut b);
     b
 }
 

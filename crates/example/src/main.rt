@@ -1,5 +1,6 @@
 // A client and a listener in one process. The first opening asks for a cookie; the second brings it with data, which the listener is given before the
 // handshake is complete. Rattle proves the whole program without a proof file.
+#![tactic(auto)]
 mod ends;
 
 use client::calls::{answer, connect};

@@ -12,6 +12,7 @@ ghost use Rattle.protocol.specs.Call.{Call};
 ghost use Rattle.protocol.specs.Refusals.{release_of};
 ghost use Rattle.protocol.specs.Step.{blank, fresh_listener, never_started, start_of, outcome, step, output_of, pending_number};
 
+use lists::copy::copy;
 use crate::outcome::new_outcome;
 use cipher::expand_key;
 use decisions::action::{
@@ -105,7 +106,7 @@ fn key_of(key: &[u8]) -> [u8; 16]
     ensures { result ≡ key.now }
 {
     let mut k = [0u8; 16];
-    bytes::copy(key, &mut k);
+    copy(key, &mut k);
     k
 }
 

@@ -1,1 +1,4 @@
-// Lists and bytes, for every crate above: definitions in specs/ and laws in proofs/. This crate has no functions.
+// Lists and bytes, for every crate above: definitions in specs/, laws in proofs/, and bytes copied.
+#![tactic(auto)]
+
+pub mod copy;

@@ -6,6 +6,7 @@ ghost use Rattle.pcap.specs.Write.{put_by, writing};
 ghost use Rattle.packet.specs.Ip.{least_header};
 ghost use Rattle.packet.specs.Write.{header_v4, header_v6, checked_v4, packet_check, packet_bytes};
 
+use lists::copy::copy;
 use crate::read::{HEADER_V4, HEADER_V6, TCP};
 use endpoint::address::Family;
 use pcap::record::MOST_CAPTURED;
@@ -117,8 +118,8 @@ fn put_behind(out: &mut [u8], header: &[u8], tcp: &[u8])
     ensures { out.new ≡ overwrite (header.now ++ tcp.now) out.old }
 {
     let n = header.len();
-    bytes::copy(header, out);
-    bytes::copy(tcp, &mut out[n..]);
+    copy(header, out);
+    copy(tcp, &mut out[n..]);
 }
 
 // Puts the packet of a segment, between the addresses of a family that two blocks have.

@@ -14,7 +14,7 @@ pub const MAGIC: u32 = 0xA1B2C3D4;
 pub const RAW_IP: u32 = 101;
 
 // Which byte of a number comes first in the file.
-#[derive(Drop)]
+#[derive(Clone, Copy, Drop)]
 pub enum ByteOrder {
     LowFirst,
     HighFirst,

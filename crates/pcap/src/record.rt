@@ -13,7 +13,7 @@ pub const RECORD_HEADER: usize = 16;
 pub const MOST_CAPTURED: usize = 4096;
 
 // A record's header: the time in seconds and microseconds, how many bytes of the packet were captured, and how many it had.
-#[derive(Drop)]
+#[derive(Clone, Copy, Drop)]
 pub struct RecordHead {
     pub seconds: u32,
     pub micros: u32,

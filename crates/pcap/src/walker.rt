@@ -8,14 +8,14 @@ use crate::record::{Next, RECORD_HEADER, RecordHead, check_of, next_record, rest
 use segment::refusal::{Check, Refusal};
 
 // Before the file header, or behind it, with its byte order.
-#[derive(Drop)]
+#[derive(Clone, Copy, Drop)]
 pub enum Stage {
     Header,
     Records(ByteOrder),
 }
 
 // How far the walk is, how many bytes it has taken and how many records, which is the place of the next one.
-#[derive(Drop)]
+#[derive(Clone, Copy, Drop)]
 pub struct Walker {
     pub stage: Stage,
     pub bytes: u64,

@@ -3,6 +3,7 @@ ghost use Rattle.std.specs.Prelude.{◌≡◌, ◌-◌, min, length};
 ghost use Rattle.lists.specs.Bytes.{overwrite};
 ghost use Rattle.pcap.specs.Window.{left_in, refilled};
 
+use lists::copy::copy;
 use segment::header::part;
 
 // How many bytes there are from `at` to `end`, in a window of so many.
@@ -42,6 +43,6 @@ pub fn refill(window: &mut [u8], at: usize, end: usize, read: &[u8]) -> usize
 {
     let n = move_to_start(window, at, end);
     let fitting = part(read, 0, window.len() - n);
-    bytes::copy(fitting, &mut window[n..]);
+    copy(fitting, &mut window[n..]);
     n + fitting.len()
 }

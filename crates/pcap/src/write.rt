@@ -5,6 +5,7 @@ ghost use Rattle.std.specs.Prelude.{◌≡◌, length};
 ghost use Rattle.lists.specs.Bytes.{overwrite};
 ghost use Rattle.pcap.specs.Write.{file_header_bytes, head_bytes, record_bytes, file_check, record_check, put_by, writing};
 
+use lists::copy::copy;
 use crate::file::FILE_HEADER;
 use crate::record::{MOST_CAPTURED, RECORD_HEADER};
 use segment::refusal::{Check, Refusal};
@@ -37,7 +38,7 @@ pub fn write_file_header(out: &mut [u8]) -> Written
     let header = [
         0xD4u8, 0xC3, 0xB2, 0xA1, 2, 0, 4, 0, 0, 0, 0, 0, 0, 0, 0, 0, 0, 16, 0, 0, 101, 0, 0, 0,
     ];
-    bytes::copy(&header, out);
+    copy(&header, out);
     Written {
         check: Check::Clear,
         len: FILE_HEADER,
@@ -88,8 +89,8 @@ pub fn write_record(
         return refused(Refusal::Output);
     }
     let head = head_bytes(seconds, micros, n as u32, original);
-    bytes::copy(&head, out);
-    bytes::copy(packet, &mut out[RECORD_HEADER..]);
+    copy(&head, out);
+    copy(packet, &mut out[RECORD_HEADER..]);
     Written {
         check: Check::Clear,
         len: size,

@@ -1,7 +1,7 @@
 -- The slots and the journal's entries hold the same connections: every weight of entries has one sum over both. Assumes nothing.
 use Prim.Native.Nat.{ℕ, ◌+◌, ◌≤◌, ◌<◌}
 use mathlib.Core.Path.{◌≡◌, refl, sym, ap, ◌∙◌, subst}
-use mathlib.Core.Bool.{Bool, true, false, cond, ◌&&◌, true≢false, and_true, and-eq-true_iff}
+use mathlib.Core.Bool.{Bool, true, false, cond, ◌&&◌, true≢false, and-true, and-eq-true_iff}
 use mathlib.Core.List.{List, [], ◌∷◌, ◌++◌}
 use native.Mathlib.Omega.{arith}
 use borrow.Author.Tests.{ltb-true, ltb-false, eqb-true, eq-eqb}
@@ -161,7 +161,7 @@ abbrev any : Peer → Bool
 any p = true
 
 any-pends : (t : ℕ) (es : List Entry) → tally (pends_of t any) es ≡ tally (λ e. pends t e.mark) es
-any-pends t es = sum_ext _ _ (λ e. ap bit (and_true (pends t e.mark))) es
+any-pends t es = sum_ext _ _ (λ e. ap bit (and-true (pends t e.mark))) es
 
 -- The slots and the entries at a time
 
@@ -181,7 +181,7 @@ module _ {f : Family} {t : ℕ} {slots : List Slot} {es : List Entry} (m : Match
   of_same of = m.same (λ e. bit (pends_of t of e)) ∙ sum_ext _ _ (λ s. entry-pends t of (name_of f s) s.status) slots
 
   pub pending-same : tally (λ e. pends t e.mark) es ≡ pending_at t slots
-  pending-same = sym (any-pends t es) ∙ (of_same any ∙ sum_ext _ _ (λ s. ap bit (and_true (is_pending t s.status))) slots)
+  pending-same = sym (any-pends t es) ∙ (of_same any ∙ sum_ext _ _ (λ s. ap bit (and-true (is_pending t s.status))) slots)
 
   pub from_same : (a : List ℕ) → length a ≡ size f → All (Fits f) slots → tally (pends_of_address t a) es ≡ pending_from t (block a) slots
   unfolding pends_from

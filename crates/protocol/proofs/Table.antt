@@ -1,7 +1,7 @@
 -- Statuses, from one time to a later one, and the slots of a name and of an address. Assumes nothing.
 use Prim.Native.Nat.{ℕ, ◌≤◌}
 use mathlib.Core.Path.{◌≡◌, refl, sym, ap, ◌∙◌}
-use mathlib.Core.Bool.{Bool, true, false, ◌&&◌, false≢true, and_true, and-false}
+use mathlib.Core.Bool.{Bool, true, false, ◌&&◌, false≢true, and-true, and-false}
 use mathlib.Core.List.{List}
 use native.Mathlib.Omega.{arith}
 use borrow.Author.Tests.{ltb-true, lt-ltb}
@@ -39,7 +39,7 @@ module _ (t : ℕ) (b : List ℕ) (port : ℕ) (s : Slot) where
 
   pub same_name_lem : same_name s.port port s.addr b ≡ true → holds_peer t b port s ≡ is_live t s.status
   unfolding holds_peer
-  same_name_lem e = rw e (and_true (is_live t s.status))
+  same_name_lem e = rw e (and-true (is_live t s.status))
 
   pub not_live : is_live t s.status ≡ false → holds_peer t b port s ≡ false
   unfolding holds_peer

@@ -5,7 +5,7 @@ use segment::refusal::{Check, Refusal};
 
 // What happened. Of an opening it is the verdict: `FastOpened` is document 01's early, with its accepted count, `Regular` its plain and
 // `Retransmission` its repeat. `Completed` and `WasReset` are a completion and a reset; `Done` is any other call that is done.
-#[derive(Drop)]
+#[derive(Clone, Copy, Drop)]
 pub enum Event {
     Refused(Refusal),
     FastOpened(u32),

@@ -4,7 +4,7 @@
 pub const SLOTS: usize = 64;
 
 // Document 01's free, plain, early with its accepted count, held until a time, and open.
-#[derive(Drop)]
+#[derive(Clone, Copy, Drop)]
 pub enum Status {
     Free,
     SynReceived,
@@ -14,7 +14,7 @@ pub enum Status {
 }
 
 // A connection: the peer's address as a block, its port, both initial numbers and the status.
-#[derive(Drop)]
+#[derive(Clone, Copy, Drop)]
 pub struct Slot {
     pub addr: [u8; 16],
     pub port: u16,

@@ -1,5 +1,6 @@
 // Plays a script of a listener's calls from standard input and prints a line for each: what the call came to. A line is answered as soon as it is
 // complete, so that the program can be driven through a pipe.
+#![tactic(auto)]
 ghost use Rattle.std.specs.Prelude.{◌-◌, ◌≤◌};
 
 use libc::{STDIN_FILENO, STDOUT_FILENO};

@@ -12,7 +12,7 @@ const RUN: usize = 65536;
 const PASS: usize = 16;
 
 // Four totals side by side, which the compiler keeps in one vector register.
-#[derive(Drop)]
+#[derive(Clone, Copy, Drop)]
 struct Lanes {
     a: u32,
     b: u32,

@@ -9,7 +9,7 @@ use crate::number::{long_at, word_at};
 pub const LONGEST_SEGMENT: usize = 1520;
 
 // The fields of a header that are used. The offset is its length in 32-bit words.
-#[derive(Drop)]
+#[derive(Clone, Copy, Drop)]
 pub struct Header {
     pub source: u16,
     pub dest: u16,
@@ -27,7 +27,7 @@ pub enum Shape {
 }
 
 // Document 01's opening, reset and completion, and all else.
-#[derive(Drop)]
+#[derive(Clone, Copy, Drop)]
 pub enum Kind {
     Syn,
     Rst,

@@ -2,6 +2,8 @@
 //
 // Every public function takes whatever bytes come and has no precondition: where a segment is malformed, an address is of no family
 // or an output is too short, the result is 0 and nothing is written. The definitions that the contracts cite are in specs/.
+#![tactic(auto)]
+
 pub mod checksum;
 pub mod header;
 pub mod number;

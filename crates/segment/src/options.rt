@@ -13,28 +13,28 @@ pub const LEAST_MSS: u32 = 536;
 pub const MOST_MSS: u32 = 1460;
 
 // The maximum segment size, if an option gave one.
-#[derive(Drop)]
+#[derive(Clone, Copy, Drop)]
 pub enum Mss {
     NotGiven,
     Given(u16),
 }
 
 // How a Fast Open option is coded: as kind 34, or in the older way, as kind 254 with F9 89 behind its length.
-#[derive(Drop)]
+#[derive(Clone, Copy, Drop)]
 pub enum Coding {
     New,
     Older,
 }
 
 // The codings that count, a setting.
-#[derive(Drop)]
+#[derive(Clone, Copy, Drop)]
 pub enum Codings {
     NewOnly,
     Both,
 }
 
 // The Fast Open option: none, an empty one that asks for a cookie, or a cookie by its place in the area, which counts from 0.
-#[derive(Drop)]
+#[derive(Clone, Copy, Drop)]
 pub enum FastOpenOption {
     Absent,
     Request(Coding),

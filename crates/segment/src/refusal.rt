@@ -3,7 +3,7 @@ ghost use Rattle.std.specs.Prelude.{◌≡◌};
 ghost use Rattle.segment.specs.Refusal.{number_of};
 
 // Why a call is refused. When each is given is document 01's table, "Numbers returned"; the last two are document 02's, of captures.
-#[derive(Drop)]
+#[derive(Clone, Copy, Drop)]
 pub enum Refusal {
     Format,
     Address,
@@ -23,7 +23,7 @@ pub enum Refusal {
 }
 
 // What the checks of a call come to.
-#[derive(Drop)]
+#[derive(Clone, Copy, Drop)]
 pub enum Check {
     Clear,
     Refused(Refusal),

@@ -13,6 +13,7 @@ use crate::checksum::{add_bytes, is_one_family, pseudo_sum};
 use crate::header::{ACK, LONGEST_SEGMENT, SYN};
 use crate::options::{Coding, is_cookie_length};
 use crate::sequence::next_after;
+use lists::copy::copy;
 
 // The most bytes of options and payload.
 const MOST_BODY: usize = LONGEST_SEGMENT - 20;
@@ -23,7 +24,7 @@ pub const LONGEST_SYN_ACK: usize = 36;
 pub const LONGEST_OPENING: usize = 1504;
 
 // The fields of a segment to write, besides its cookie and its data. `fast`: with a Fast Open option, in this coding.
-#[derive(Drop)]
+#[derive(Clone, Copy, Drop)]
 pub(crate) struct Outgoing {
     pub source: u16,
     pub dest: u16,
@@ -65,7 +66,7 @@ fn append(out: &mut [u8], at: usize, src: &[u8]) -> usize
     ensures value { result ≡ at + length src.now }
     ensures out_after { out.new ≡ take at out.old ++ (src.now ++ drop (at + length src.now) out.old) }
 {
-    let n = bytes::copy(src, &mut out[at..]);
+    let n = copy(src, &mut out[at..]);
     at + n
 }
 
@@ -123,7 +124,7 @@ fn put_body(out: &mut [u8], f: Outgoing, cookie: &[u8], payload: &[u8]) -> usize
     let coding = f.coding;
     let m = put_options(&mut out[20..], f.mss, f.fast, coding, cookie);
     let end = 20 + m;
-    bytes::copy(payload, &mut out[end..]);
+    copy(payload, &mut out[end..]);
     m
 }
 
@@ -167,7 +168,7 @@ fn put_header(out: &mut [u8], src: &[u8], dst: &[u8], f: Outgoing, offset: u8, n
         &out[20..n],
     );
     let with_checksum = header(f, offset, 65535 - sum);
-    bytes::copy(&with_checksum, out);
+    copy(&with_checksum, out);
 }
 
 // How many bytes stand before a cookie.

@@ -1,6 +1,7 @@
 // The text of the replay programs: a line's words, numbers and byte strings are read, an outcome's line is put into a buffer, and standard input is taken part by part.
 //
 // No public function has a precondition: a word that is no number or no byte string is `Bad`, and a buffer takes as many bytes as fit.
+#![tactic(auto)]
 pub mod argument;
 pub mod bytestring;
 pub mod line;

@@ -5,6 +5,8 @@ ghost use Rattle.text.specs.Put.{place_after, laid, field, last_field, fields, r
 ghost use Rattle.text.specs.Number.{decimal};
 ghost use Rattle.text.specs.ByteString.{hex_digit, hex_of, hex_word};
 
+use lists::copy::copy;
+
 // Puts bytes.
 pub fn put(out: &mut [u8], at: usize, src: &[u8]) -> usize
     ensures value { result ≡ place_after at (length src.now) (length out.old) }
@@ -15,10 +17,10 @@ pub fn put(out: &mut [u8], at: usize, src: &[u8]) -> usize
     }
     let left = out.len() - at;
     if src.len() > left {
-        bytes::copy(&src[..left], &mut out[at..]);
+        copy(&src[..left], &mut out[at..]);
         return out.len();
     }
-    bytes::copy(src, &mut out[at..]);
+    copy(src, &mut out[at..]);
     at + src.len()
 }
 

@@ -1,5 +1,6 @@
 // Repeats one piece of work on built-in data and prints a digest of its results, so that a run can be timed and its results compared:
 // `timing WORK COUNT LIVE PAYLOAD`, with LIVE the connections that the listener has already and PAYLOAD the length of the data.
+#![tactic(auto)]
 mod calls;
 mod data;
 mod pieces;

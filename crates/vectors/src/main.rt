@@ -1,5 +1,6 @@
 // Runs the published AES-128 vectors through the compiled cipher and prints a line for each: FIPS 197 appendix A.1, the 44 words
 // of the key schedule, B and C.1, and SP 800-38A F.1.1. The file `stdout` has the values as published.
+#![tactic(auto)]
 use libc::STDOUT_FILENO;
 use text::part::first;
 use text::put::{put, put_bytes};

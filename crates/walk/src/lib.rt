@@ -1,2 +1,3 @@
 // A capture fed to a listener, record by record.
+#![tactic(auto)]
 pub mod feed;
