@@ -355,7 +355,7 @@ unfolding step listener_after journal_after numbered listener_decisions journal_
 all_follow l j [] a = (a, refl)
 all_follow l j (c ∷ cs) a =
     let x = one l j c a (call_check l c) refl in
-    let more = all_follow _ _ cs x.agrees in
+    let more = all_follow (step l c).listener (feed j c (number_of_event (step l c).event)) cs x.agrees in
     (more.0, ap₂ ◌∷◌ x.decided more.1)
 
 -- the numbers of both, of all addresses and of one of the family
