@@ -1,15 +1,5 @@
 // The lines that are printed: of a record, of the end, and of how far the walk is.
-use libc::STDOUT_FILENO;
 use text::put::{put, put_field, put_number, put_number_field};
-
-// Prints, or says that it cannot be done; answers whether it was.
-pub(crate) fn print(text: &[u8]) -> bool {
-    if io::write_all(STDOUT_FILENO, text) {
-        return true;
-    }
-    os::fail(b"standard output");
-    false
-}
 
 // PLACE and TIME.
 pub(crate) fn put_start(out: &mut [u8], at: usize, place: u64, time: u64) -> usize {

@@ -5,97 +5,101 @@ mod line;
 mod setup;
 mod window;
 
-use libc::{STDERR_FILENO, STDIN_FILENO};
+use console::arguments::{LONGEST_NAME, argument, has_argument};
+use console::source::{Source, create, open, try_reading};
+use console::streams::{Streams, new_streams};
+use std::fs::File;
+use std::io;
 use text::word::is_word;
+use window::{Files, new_files};
 
-fn tell(text: &[u8]) {
-    io::write_all(STDERR_FILENO, text);
-}
-
-fn tell_usage() {
-    tell(b"usage: capture SETUP CAPTURE [OUT]\n");
+fn tell_usage(streams: Streams) {
+    streams.tell(b"usage: capture SETUP CAPTURE [OUT]\n");
 }
 
 // Tells a name and what is wrong with it.
-fn tell_of(name: &[u8], what: &[u8]) {
-    tell(name);
-    tell(what);
+fn tell_of(streams: Streams, name: &[u8], what: &[u8]) {
+    streams.tell(name);
+    streams.tell(what);
 }
 
-// Plays the set-up, and then walks the capture. There is no file for the packets where `out` is negative.
-fn play_and_walk(setup: i32, capture: i32, name: &[u8], out: i32, out_name: &[u8]) {
-    let l = setup::play_setup(setup);
-    window::walk_capture(l, capture, name, out, out_name);
+// Plays the set-up, and then walks the capture.
+fn play_and_walk(setup: &mut File, files: &mut Files, name: &[u8], out_name: &[u8]) {
+    let l = setup::play_setup(files.streams, setup);
+    window::walk_capture(l, files, name, out_name);
 }
 
-// Whether a file that was opened can be read, which a folder cannot: nothing is printed before that is known.
-fn is_readable(fd: i32) -> bool {
-    let mut none = [0u8; 1];
-    libc::read(fd, &mut none[..0]) >= 0
+// Opens a file, if it can be read: nothing is printed before that is known.
+fn open_readable(rt: &HostRuntime, name: &[u8]) -> io::Result<File> {
+    let mut file = open(rt, name)?;
+    try_reading(&mut file)?;
+    Ok(file)
 }
 
-// The capture's descriptor; `-` is standard input.
-fn open_capture(name: &[u8]) -> i32 {
+// The capture; `-` is standard input.
+fn open_capture(rt: &HostRuntime, name: &[u8]) -> io::Result<Source> {
     if is_word(name, b"-") {
-        return STDIN_FILENO;
+        let mut input = rt.stdin();
+        try_reading(&mut input)?;
+        return Ok(Source::Input(input));
     }
-    os::open_read(name)
+    Ok(Source::Opened(open_readable(rt, name)?))
 }
 
 // With both inputs open, opens the file for the packets, if there is to be one.
-fn run_with(setup: i32, setup_name: &[u8], capture: i32, name: &[u8], has_out: bool) {
+fn run_with(
+    rt: &HostRuntime,
+    streams: Streams,
+    setup: &mut File,
+    setup_name: &[u8],
+    capture: Source,
+    name: &[u8],
+    has_out: bool,
+) {
     if !has_out {
-        return play_and_walk(setup, capture, name, -1, b"");
+        let mut files = new_files(capture, None, streams);
+        return play_and_walk(setup, &mut files, name, b"");
     }
-    let mut path = io::buffer();
-    let n = os::arg(3, &mut path);
+    let mut path = [0u8; LONGEST_NAME];
+    let n = argument(rt, 3, &mut path);
     let out_name = &path[..n];
     // opening it would empty them
     if is_word(out_name, name) {
-        return tell_of(out_name, b": is the capture itself\n");
+        return tell_of(streams, out_name, b": is the capture itself\n");
     }
     if is_word(out_name, setup_name) {
-        return tell_of(out_name, b": is the set-up itself\n");
+        return tell_of(streams, out_name, b": is the set-up itself\n");
     }
-    let out = os::open_overwrite(out_name);
-    if out < 0 {
-        return os::fail(out_name);
+    match create(rt, out_name) {
+        Ok(out) => {
+            let mut files = new_files(capture, Some(out), streams);
+            play_and_walk(setup, &mut files, name, out_name);
+        }
+        Err(e) => streams.fail(out_name, e),
     }
-    play_and_walk(setup, capture, name, out, out_name);
 }
 
 // With the set-up open, opens the capture.
-fn run(setup: i32, setup_name: &[u8], has_out: bool) {
-    let mut path = io::buffer();
-    let n = os::arg(2, &mut path);
+fn run(rt: &HostRuntime, streams: Streams, setup: &mut File, setup_name: &[u8], has_out: bool) {
+    let mut path = [0u8; LONGEST_NAME];
+    let n = argument(rt, 2, &mut path);
     let name = &path[..n];
-    let capture = open_capture(name);
-    if capture < 0 {
-        return os::fail(name);
+    match open_capture(rt, name) {
+        Ok(capture) => run_with(rt, streams, setup, setup_name, capture, name, has_out),
+        Err(e) => streams.fail(name, e),
     }
-    if !is_readable(capture) {
-        return os::fail(name);
-    }
-    run_with(setup, setup_name, capture, name, has_out);
 }
 
-fn main() {
-    let count = os::arg_count();
-    if count < 3 {
-        return tell_usage();
+fn main(rt: HostRuntime) {
+    let streams = new_streams(rt.stdout(), rt.stderr());
+    if !has_argument(&rt, 2) || has_argument(&rt, 4) {
+        return tell_usage(streams);
     }
-    if count > 4 {
-        return tell_usage();
-    }
-    let mut path = io::buffer();
-    let n = os::arg(1, &mut path);
+    let mut path = [0u8; LONGEST_NAME];
+    let n = argument(&rt, 1, &mut path);
     let name = &path[..n];
-    let setup = os::open_read(name);
-    if setup < 0 {
-        return os::fail(name);
+    match open_readable(&rt, name) {
+        Ok(mut setup) => run(&rt, streams, &mut setup, name, has_argument(&rt, 3)),
+        Err(e) => streams.fail(name, e),
     }
-    if !is_readable(setup) {
-        return os::fail(name);
-    }
-    run(setup, name, count == 4);
 }

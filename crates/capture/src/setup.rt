@@ -1,10 +1,11 @@
 // The set-up: its lines are played as `replay` plays them, and their answers printed.
 ghost use Rattle.std.specs.Prelude.{◌-◌, ◌≤◌};
 
-use crate::line::print;
+use console::streams::Streams;
 use listener::calls::never_started;
 use player::play::play_line;
 use protocol::state::Listener;
+use std::io::Read;
 use text::line::LONGEST;
 use text::part::first;
 use text::reader::{INPUT, Reader, new_reader, read_if_used_up, take_next};
@@ -18,20 +19,20 @@ struct Session {
     listener: Listener,
 }
 
-fn print_line(l: Listener, line: &[u8], len: usize) -> Listener {
+fn print_line(streams: Streams, l: Listener, line: &[u8], len: usize) -> Listener {
     let mut text = [0u8; TEXT];
     let p = play_line(l, line, len, &mut text);
     let n = p.len;
-    print(first(&text, n));
+    streams.print(first(&text, n));
     p.listener
 }
 
 // Takes the next part of the set-up, and plays the line where that completes one.
-fn play_part(fd: i32, s: Session, input: &mut [u8; INPUT], line: &mut [u8; LONGEST]) -> Session
+fn play_part<R: Read>(streams: Streams, source: &mut R, s: Session, input: &mut [u8; INPUT], line: &mut [u8; LONGEST]) -> Session
     ensures { result.reader.left ≤ s.reader.left - 1 }
 {
     let r = s.reader;
-    let n = read_if_used_up(fd, r, input);
+    let n = read_if_used_up(source, r, input);
     let reader = take_next(r, n, input, line);
     let listener = s.listener;
     if !reader.complete {
@@ -40,12 +41,12 @@ fn play_part(fd: i32, s: Session, input: &mut [u8; INPUT], line: &mut [u8; LONGE
     let len = reader.len;
     Session {
         reader,
-        listener: print_line(listener, first(line, len), len),
+        listener: print_line(streams, listener, first(line, len), len),
     }
 }
 
 // Plays all of it, and returns the listener.
-pub(crate) fn play_setup(fd: i32) -> Listener {
+pub(crate) fn play_setup<R: Read>(streams: Streams, source: &mut R) -> Listener {
     let mut input = [0u8; INPUT];
     let mut line = [0u8; LONGEST];
     let mut s = Session {
@@ -53,7 +54,7 @@ pub(crate) fn play_setup(fd: i32) -> Listener {
         listener: never_started(),
     };
     while s.reader.left > 0 {
-        s = play_part(fd, s, &mut input, &mut line);
+        s = play_part(streams, source, s, &mut input, &mut line);
     }
     s.listener
 }

@@ -1,7 +1,8 @@
 // The walk over a capture of any size, through a window on it. The lines and the packets of a window are gathered, and written before the next read.
-use crate::line::{print, put_end, put_progress, put_skipped, put_start};
+use crate::line::{put_end, put_progress, put_skipped, put_start};
+use console::source::Source;
+use console::streams::Streams;
 use endpoint::address::block_of;
-use libc::{STDERR_FILENO, STDOUT_FILENO};
 use listener::calls::pending;
 use listener::outcome::{accepted_part, event_number};
 use packet::read::{find_tcp, source_part, tcp_part};
@@ -14,6 +15,8 @@ use player::line::put_fields;
 use protocol::outcome::Outcome;
 use protocol::state::Listener;
 use segment::refusal::{Check, Refusal, number};
+use std::fs::File;
+use std::io::{Read, Write};
 use std::num::{wrapping_add_u64, wrapping_sub_u64};
 use text::output::{FILL, is_kept};
 use text::part::{first, rest};
@@ -76,12 +79,22 @@ struct Walk {
     tally: Tally,
 }
 
-// The descriptors of the capture and of the file for the packets, none where that is negative; whether progress is told.
+// The capture, the file for the packets, if there is one, and the standard streams; whether progress is told.
 #[derive(Drop)]
-struct Files {
-    capture: i32,
-    out: i32,
+pub(crate) struct Files {
+    capture: Source,
+    out: Option<File>,
+    pub(crate) streams: Streams,
     tells: bool,
+}
+
+pub(crate) fn new_files(capture: Source, out: Option<File>, streams: Streams) -> Files {
+    Files {
+        capture,
+        out,
+        streams,
+        tells: streams.tells_alone(),
+    }
 }
 
 // Gathers a record's bytes at a place, and returns the place after them.
@@ -279,32 +292,33 @@ fn walk_window(
 }
 
 // Writes what was gathered; where that cannot be done, says so, and answers false.
-fn write_gathered(t: Tally, out: i32, out_name: &[u8], lines: &[u8], packets: &[u8]) -> bool {
-    if !print(first(lines, t.lines)) {
+fn write_gathered(
+    t: Tally,
+    files: &mut Files,
+    out_name: &[u8],
+    lines: &[u8],
+    packets: &[u8],
+) -> bool {
+    if !files.streams.print(first(lines, t.lines)) {
         return false;
     }
-    if out < 0 {
+    let Some(out) = &mut files.out else {
         return true;
+    };
+    match out.write_all(first(packets, t.packets)) {
+        Ok(()) => true,
+        Err(e) => {
+            files.streams.fail(out_name, e);
+            false
+        }
     }
-    if !io::write_all(out, first(packets, t.packets)) {
-        os::fail(out_name);
-        return false;
-    }
-    true
 }
 
 // Tells how far the walk is on standard error, where that is a terminal and the lines go elsewhere.
-fn tell_progress(w: Walker) {
+fn tell_progress(streams: Streams, w: Walker) {
     let mut text = [0u8; 80];
     let n = put_progress(&mut text, w.records, w.bytes);
-    io::write_all(STDERR_FILENO, first(&text, n));
-}
-
-fn tells() -> bool {
-    if libc::isatty(STDERR_FILENO) != 1 {
-        return false;
-    }
-    libc::isatty(STDOUT_FILENO) != 1
+    streams.tell(first(&text, n));
 }
 
 fn number_of(check: Check) -> u8 {
@@ -317,17 +331,18 @@ fn number_of(check: Check) -> u8 {
 // Reads on; where nothing comes the walk is over.
 fn read_on(
     s: Walk,
-    capture: i32,
+    files: &mut Files,
     name: &[u8],
     window: &mut [u8; WINDOW],
     input: &mut [u8; INPUT],
 ) -> Walk {
-    let got = libc::read(capture, input);
-    if got < 0 {
-        os::fail(name);
-        return stopped(s, State::Failed, 0);
-    }
-    let n = io::count(got, input);
+    let n = match files.capture.read(input) {
+        Ok(n) => n,
+        Err(e) => {
+            files.streams.fail(name, e);
+            return stopped(s, State::Failed, 0);
+        }
+    };
     let mut t = s.tally;
     let walker = s.walker;
     let at = t.at;
@@ -348,21 +363,21 @@ fn read_on(
 }
 
 // How far the progress is told: anew where it is too far behind.
-fn told_after(t: Tally, w: Walker, tells: bool) -> u64 {
+fn told_after(t: Tally, w: Walker, streams: Streams, tells: bool) -> u64 {
     if !tells {
         return t.told;
     }
     if wrapping_sub_u64(w.bytes, t.told) < BEHIND {
         return t.told;
     }
-    tell_progress(w);
+    tell_progress(streams, w);
     w.bytes
 }
 
 // Takes all that the window allows, writes what was gathered, and reads on where that is needed.
 fn walk_on(
     start: Walk,
-    files: Files,
+    files: &mut Files,
     name: &[u8],
     out_name: &[u8],
     window: &mut [u8; WINDOW],
@@ -372,15 +387,16 @@ fn walk_on(
 ) -> Walk {
     let before = start.tally;
     let end = before.end;
-    let s = walk_window(start, first(window, end), files.out >= 0, lines, packets);
+    let has_out = files.out.is_some();
+    let s = walk_window(start, first(window, end), has_out, lines, packets);
     let mut t = s.tally;
-    if !write_gathered(t, files.out, out_name, lines, packets) {
+    if !write_gathered(t, files, out_name, lines, packets) {
         return stopped(s, State::Failed, 0);
     }
     let walker = s.walker;
     t.lines = 0;
     t.packets = 0;
-    let told = told_after(t, walker, files.tells);
+    let told = told_after(t, walker, files.streams, files.tells);
     t.told = told;
     let listener = s.listener;
     let state = s.state;
@@ -398,7 +414,7 @@ fn walk_on(
                 state: State::Going,
                 tally: t,
             };
-            read_on(next, files.capture, name, window, input)
+            read_on(next, files, name, window, input)
         }
         _ => Walk {
             listener,
@@ -410,16 +426,16 @@ fn walk_on(
 }
 
 // Prints the last line; where progress is told, how far the walk came.
-fn print_end(s: Walk, tells: bool) {
+fn print_end(s: Walk, streams: Streams, tells: bool) {
     let w = s.walker;
     let t = s.tally;
     let mut text = [0u8; 128];
     let n = put_end(&mut text, t.number, w.records, t.fed, t.skipped);
     if tells {
-        tell_progress(w);
-        io::write_all(STDERR_FILENO, b"\n");
+        tell_progress(streams, w);
+        streams.tell(b"\n");
     }
-    print(first(&text, n));
+    streams.print(first(&text, n));
 }
 
 fn is_over(s: Walk) -> bool {
@@ -427,8 +443,8 @@ fn is_over(s: Walk) -> bool {
     if let State::Over = state { true } else { false }
 }
 
-fn file_header_length(out: i32, packets: &mut [u8; ROOM]) -> usize {
-    if out < 0 {
+fn file_header_length(has_out: bool, packets: &mut [u8; ROOM]) -> usize {
+    if !has_out {
         return 0;
     }
     let w = write_file_header(packets);
@@ -436,16 +452,12 @@ fn file_header_length(out: i32, packets: &mut [u8; ROOM]) -> usize {
 }
 
 // Walks a capture. A proved loop has to end, and the capture need not: the turns are counted down from a number that no run uses up.
-pub(crate) fn walk_capture(l: Listener, capture: i32, name: &[u8], out: i32, out_name: &[u8]) {
+pub(crate) fn walk_capture(l: Listener, files: &mut Files, name: &[u8], out_name: &[u8]) {
     let mut window = [0u8; WINDOW];
     let mut input = [0u8; INPUT];
     let mut lines = [0u8; ROOM];
     let mut packets = [0u8; ROOM];
-    let files = Files {
-        capture,
-        out,
-        tells: tells(),
-    };
+    let has_out = files.out.is_some();
     let mut s = Walk {
         listener: l,
         walker: new_walker(),
@@ -457,7 +469,7 @@ pub(crate) fn walk_capture(l: Listener, capture: i32, name: &[u8], out: i32, out
             fed: 0,
             skipped: 0,
             lines: 0,
-            packets: file_header_length(out, &mut packets),
+            packets: file_header_length(has_out, &mut packets),
             told: 0,
         },
     };
@@ -476,6 +488,6 @@ pub(crate) fn walk_capture(l: Listener, capture: i32, name: &[u8], out: i32, out
         turns -= 1;
     }
     if is_over(s) {
-        print_end(s, files.tells);
+        print_end(s, files.streams, files.tells);
     }
 }

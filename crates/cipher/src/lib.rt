@@ -3,6 +3,7 @@
 // The state, four columns of four bytes, and the key schedule of 176 bytes pass by value through each round. To spare copies, the
 // functions inside a round are lent the schedule, and all are lent the tables. Numbers in brackets are sections of FIPS 197.
 #![tactic(auto)]
+
 mod sbox;
 mod ttable;
 

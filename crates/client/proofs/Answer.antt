@@ -1,7 +1,7 @@
 -- Laws for a crate above: a call that is clear, a header that answers an attempt, what an answer stores, and when it sets a ban. Assumes nothing.
 use Prim.Native.Nat.{ℕ, ◌≤◌, ◌<◌}
 use mathlib.Core.Path.{◌≡◌, refl}
-use mathlib.Core.Bool.{true, false, not, or-true, and-false}
+use mathlib.Core.Bool.{true, not, or-true, and-false}
 use mathlib.Core.List.{List}
 use native.Mathlib.Omega.{arith}
 use lib.Dec.{leb, eqb}

@@ -7,7 +7,13 @@ use native.Mathlib.Omega.{arith}
 use native.Mathlib.Numerals.{add-one}
 use lib.ListN.{length, take, drop, get_or, set, length-append, length-drop, drop_of_length-le}
 use lib.Seq.{take_all, take-suc, drop-cons, set_at, get_or_at, length-take-le}
+use Rattle.segment.specs.declared.options.Mss.TheVariants.{NotGiven}
 use Rattle.lists.specs.Lists.{first_index, drop_first}
+use Rattle.client.specs.declared.cache.Entry.{Entry}
+
+-- what stands in for an entry past the array
+abbrev pub empty : Entry
+empty = record { used = false; addr = []; cookie = []; len = 0; mss = NotGiven }
 
 module _ {A : Type 0} where
   -- a new element in front, and the first i elements one place on

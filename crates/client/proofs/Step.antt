@@ -13,7 +13,6 @@ use Rattle.segment.specs.Remarks.{no_remarks, report_of}
 use Rattle.segment.specs.Write.{opening_bytes}
 use Rattle.segment.specs.declared.options.Codings.{Codings}
 use Rattle.segment.specs.declared.options.Mss.{Mss}
-use Rattle.segment.specs.declared.options.Remarks.{Remarks}
 use Rattle.segment.specs.declared.options.Report.{Report}
 use Rattle.segment.specs.declared.refusal.Refusal.{Refusal}
 use Rattle.segment.specs.declared.refusal.Refusal.TheVariants.{Address}
@@ -32,7 +31,6 @@ use Rattle.client.specs.Refusals.{count_in, open_checks, answer_checks, call_che
 use Rattle.client.specs.Step.{blank, never_started, start_of, opening_for, sent_with, cookie_in, mss_in, cache_after, is_unacknowledged, is_negative, has_cookie, bans_after, moved, after, done_event, done_output, done_remarks, outcome, outcome_of, step, output_if, output_of}
 use Rattle.client.specs.declared.outcome.ActiveOpen.{ActiveOpen}
 use Rattle.client.specs.declared.outcome.Attempt.{Attempt}
-use Rattle.client.specs.declared.outcome.Event.{Event}
 use Rattle.client.specs.declared.outcome.Event.TheVariants as events
 use Rattle.client.specs.declared.outcome.Outcome.{Outcome}
 use Rattle.client.specs.declared.cache.Entry.{Entry}
@@ -171,7 +169,8 @@ module _ (m : Memory) (t : ℕ) (own server : List ℕ) (a : Attempt) (seg : Lis
       unfolding after
       answer-done et eb ec es er ek ei en ex =
           let done = step-done m answering (answer_checked ∙ clear) in
-          ex ∙ rw (en, ek, et, ec, es, er, eb, ei, (was_counted (refusal the_checks) a seg the_reply).1) (sym done)
+          let named : List ℕ → Outcome = λ k. outcome (moved m t (cache_after k (cookie_in g seg) (mss_in g seg) m.cache) (bans_after t k a.dest (is_negative g a seg) m.bans)) (done_event m answering) 0 (done_remarks answering) in
+          ex ∙ rw (en, ek, et, ec, es, er, ei, (was_counted (refusal the_checks) a seg the_reply).1) (ap named eb ∙ sym done)
 
 -- Failure
 

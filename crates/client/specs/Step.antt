@@ -101,7 +101,7 @@ is_unacknowledged sent count = not (eqb sent 0) && eqb count 0
 abbrev pub is_negative : Codings → Attempt → List ℕ → Bool
 is_negative g a seg = is_unacknowledged a.sent (count_in a (fields_of seg)) && eqb (length (cookie_in g seg)) 0
 
--- for the code: a cookie that is not empty comes, by the option that counts (law `cookie-told`)
+-- for the code: a cookie that is not empty comes, by the option that counts (law `cookie_told`)
 abbrev pub has_cookie : FastOpenOption → Bool
 has_cookie Absent = false
 has_cookie (Request coding) = false

@@ -3,6 +3,7 @@
 // A memory goes into each call by value and comes back in its outcome. No call has a precondition: whatever memory, bytes, times and numbers come, it is done or
 // refused with one of document 01's numbers, and a refused call changes nothing. The definitions that the contracts cite are in specs/.
 #![tactic(auto)]
+
 pub mod bans;
 pub mod cache;
 pub mod calls;

@@ -6,9 +6,10 @@ ghost use Rattle.std.specs.Prelude.{◌-◌, ◌≤◌};
 use client::calls::never_started;
 use client::state::Memory;
 use client_player::play::play_line;
-use libc::{STDIN_FILENO, STDOUT_FILENO};
+use console::streams::{Streams, new_streams};
 use text::line::LONGEST;
 use text::part::first;
+use std::io::Stdin;
 use text::reader::{INPUT, Reader, new_reader, read_if_used_up, take_next};
 
 // The buffer for an outcome's line: its longest word is an opening of 1,480 bytes, at two digits each.
@@ -21,20 +22,20 @@ struct Session {
 }
 
 // Plays a line, and prints what it came to.
-fn print_line(m: Memory, line: &[u8], len: usize) -> Memory {
+fn print_line(streams: Streams, m: Memory, line: &[u8], len: usize) -> Memory {
     let mut text = [0u8; TEXT];
     let p = play_line(m, line, len, &mut text);
     let n = p.len;
-    io::write_all(STDOUT_FILENO, first(&text, n));
+    streams.offer(first(&text, n));
     p.memory
 }
 
 // Takes the next part of the input, and plays the line where that completes one.
-fn play_part(s: Session, input: &mut [u8; INPUT], line: &mut [u8; LONGEST]) -> Session
+fn play_part(streams: Streams, source: &mut Stdin, s: Session, input: &mut [u8; INPUT], line: &mut [u8; LONGEST]) -> Session
     ensures { result.reader.left ≤ s.reader.left - 1 }
 {
     let r = s.reader;
-    let n = read_if_used_up(STDIN_FILENO, r, input);
+    let n = read_if_used_up(source, r, input);
     let reader = take_next(r, n, input, line);
     let memory = s.memory;
     if !reader.complete {
@@ -43,11 +44,13 @@ fn play_part(s: Session, input: &mut [u8; INPUT], line: &mut [u8; LONGEST]) -> S
     let len = reader.len;
     Session {
         reader,
-        memory: print_line(memory, first(line, len), len),
+        memory: print_line(streams, memory, first(line, len), len),
     }
 }
 
-fn main() {
+fn main(rt: HostRuntime) {
+    let streams = new_streams(rt.stdout(), rt.stderr());
+    let mut source = rt.stdin();
     let mut input = [0u8; INPUT];
     let mut line = [0u8; LONGEST];
     let mut s = Session {
@@ -55,6 +58,6 @@ fn main() {
         memory: never_started(),
     };
     while s.reader.left > 0 {
-        s = play_part(s, &mut input, &mut line);
+        s = play_part(streams, &mut source, s, &mut input, &mut line);
     }
 }

@@ -1,6 +1,6 @@
 // The lines that are printed, and those that are told on standard error.
 use comparison::compare::{Finding, Summary};
-use libc::{STDERR_FILENO, STDOUT_FILENO};
+use console::streams::Streams;
 use segment::refusal::{Check, number};
 use text::part::first;
 use text::put::{put, put_field, put_number, put_number_field};
@@ -11,29 +11,16 @@ pub(crate) const LONGEST_ENTRY: usize = 42;
 // Room for what is told of a line: a file's name, a line of a script, and some words.
 const TOLD: usize = 16384;
 
-// Prints, or says that it cannot be done; answers whether it was.
-pub(crate) fn print(text: &[u8]) -> bool {
-    if io::write_all(STDOUT_FILENO, text) {
-        return true;
-    }
-    os::fail(b"standard output");
-    false
-}
-
-pub(crate) fn tell(text: &[u8]) {
-    io::write_all(STDERR_FILENO, text);
-}
-
 // Tells a name and what is wrong with it.
-pub(crate) fn tell_of(name: &[u8], what: &[u8]) {
+pub(crate) fn tell_of(streams: Streams, name: &[u8], what: &[u8]) {
     let mut told = [0u8; TOLD];
     let a = put(&mut told, 0, name);
     let b = put(&mut told, a, what);
-    tell(first(&told, b));
+    streams.tell(first(&told, b));
 }
 
 // Tells which line of a file cannot be used, and why.
-pub(crate) fn tell_line(name: &[u8], place: u64, line: &[u8], why: &[u8]) {
+pub(crate) fn tell_line(streams: Streams, name: &[u8], place: u64, line: &[u8], why: &[u8]) {
     let mut told = [0u8; TOLD];
     let a = put(&mut told, 0, name);
     let b = put(&mut told, a, b": line ");
@@ -41,7 +28,7 @@ pub(crate) fn tell_line(name: &[u8], place: u64, line: &[u8], why: &[u8]) {
     let d = put(&mut told, c, b": ");
     let e = put(&mut told, d, line);
     let f = put(&mut told, e, why);
-    tell(first(&told, f));
+    streams.tell(first(&told, f));
 }
 
 // Puts a number and a line feed.
@@ -71,9 +58,9 @@ fn put_entries(out: &mut [u8], list: &[u64], from: usize, to: usize) -> usize {
 }
 
 // Prints the entries that were listed since the last time; `lines` has room for all that may be.
-pub(crate) fn print_entries(lines: &mut [u8], list: &[u64], from: usize, to: usize) -> bool {
+pub(crate) fn print_entries(streams: Streams, lines: &mut [u8], list: &[u64], from: usize, to: usize) -> bool {
     let n = put_entries(lines, list, from, to);
-    print(first(lines, n))
+    streams.print(first(lines, n))
 }
 
 fn number_of(check: Check) -> u8 {
@@ -84,10 +71,10 @@ fn number_of(check: Check) -> u8 {
 }
 
 // Prints the number of the set-up: of its refusal, or 0.
-pub(crate) fn print_check(check: Check) -> bool {
+pub(crate) fn print_check(streams: Streams, check: Check) -> bool {
     let mut text = [0u8; 24];
     let n = put_last(&mut text, 0, number_of(check) as u64);
-    print(first(&text, n))
+    streams.print(first(&text, n))
 }
 
 // Puts FED END of a capture.
@@ -98,7 +85,7 @@ fn put_summary(out: &mut [u8], at: usize, s: Summary) -> usize {
 }
 
 // Prints the last three lines.
-pub(crate) fn print_finding(f: Finding) -> bool {
+pub(crate) fn print_finding(streams: Streams, f: Finding) -> bool {
     let mut text = [0u8; 128];
     let one = f.first;
     let two = f.second;
@@ -108,5 +95,5 @@ pub(crate) fn print_finding(f: Finding) -> bool {
     let d = put_summary(&mut text, c, one);
     let e = put_field(&mut text, d, b"second");
     let n = put_summary(&mut text, e, two);
-    print(first(&text, n))
+    streams.print(first(&text, n))
 }

@@ -6,12 +6,17 @@ mod setup;
 mod sides;
 
 use comparison::compare::set_up;
-use libc::STDIN_FILENO;
-use line::{print_check, tell};
+use console::arguments::{LONGEST_NAME, argument, has_argument};
+use console::source::{Source, open, try_reading};
+use console::streams::{Streams, new_streams};
+use line::print_check;
 use protocol::state::Settings;
 use segment::refusal::Check;
 use setup::{SetUp, Start, read_setup};
 use sides::{Files, MOST_ENTRIES, compare_captures};
+use std::fs::File;
+use std::io;
+use std::io::Read;
 use text::line::MOST_BYTES;
 use text::number::{Number, read_number};
 use text::part::first;
@@ -20,27 +25,25 @@ use text::word::is_word;
 // As long as an argument can be: leading zeros of ENTRIES are allowed.
 const ARGUMENT: usize = 131072;
 
-fn tell_usage() {
-    tell(b"usage: compare SETUP CAPTURE CAPTURE [ENTRIES]\n");
+fn tell_usage(streams: Streams) {
+    streams.tell(b"usage: compare SETUP CAPTURE CAPTURE [ENTRIES]\n");
 }
 
-// Whether a file that was opened can be read, which a folder cannot: nothing is printed before that is known.
-fn is_readable(fd: i32) -> bool {
-    let mut none = [0u8; 1];
-    libc::read(fd, &mut none[..0]) >= 0
-}
-
-// The descriptor, if the file was opened and can be read; else that is told, and it is negative.
-fn checked(fd: i32, name: &[u8]) -> i32 {
-    if fd < 0 {
-        os::fail(name);
-        return -1;
+// What was opened, if it can be read, which a folder cannot: nothing is printed before that is known. Else that is told.
+fn checked<S: Read + Drop>(streams: Streams, opened: io::Result<S>, name: &[u8]) -> Option<S> {
+    match opened {
+        Ok(mut source) => match try_reading(&mut source) {
+            Ok(()) => Some(source),
+            Err(e) => {
+                streams.fail(name, e);
+                None
+            }
+        },
+        Err(e) => {
+            streams.fail(name, e);
+            None
+        }
     }
-    if !is_readable(fd) {
-        os::fail(name);
-        return -1;
-    }
-    fd
 }
 
 // Whether a capture is standard input.
@@ -48,12 +51,13 @@ fn is_input(name: &[u8]) -> bool {
     is_word(name, b"-")
 }
 
-// A capture's descriptor.
-fn open_capture(name: &[u8]) -> i32 {
+// A capture.
+fn open_capture(rt: &HostRuntime, streams: Streams, name: &[u8]) -> Option<Source> {
     if is_input(name) {
-        return STDIN_FILENO;
+        return Some(Source::Input(rt.stdin()));
     }
-    checked(os::open_read(name), name)
+    let file = checked(streams, open(rt, name), name)?;
+    Some(Source::Opened(file))
 }
 
 // Makes the two calls and, where none is refused, compares the captures.
@@ -62,7 +66,7 @@ fn set_up_and_compare(
     key: &[u8; MOST_BYTES],
     start: Start,
     settings: Settings,
-    files: Files,
+    files: &mut Files,
     name1: &[u8],
     name2: &[u8],
     entries: u64,
@@ -75,7 +79,7 @@ fn set_up_and_compare(
     );
     let l = s.listener;
     let check = s.check;
-    if !print_check(check) {
+    if !print_check(files.streams, check) {
         return;
     }
     if let Check::Clear = check {
@@ -85,16 +89,16 @@ fn set_up_and_compare(
 
 // With all files open, reads the set-up.
 fn compare_with(
-    setup: i32,
+    setup: &mut File,
     setup_name: &[u8],
-    files: Files,
+    files: &mut Files,
     name1: &[u8],
     name2: &[u8],
     entries: u64,
 ) {
     let mut own = [0u8; MOST_BYTES];
     let mut key = [0u8; MOST_BYTES];
-    match read_setup(setup, setup_name, &mut own, &mut key) {
+    match read_setup(files.streams, setup, setup_name, &mut own, &mut key) {
         SetUp::Unusable => {}
         SetUp::Usable(start, settings) => set_up_and_compare(
             &own, &key, start, settings, files, name1, name2, entries,
@@ -103,64 +107,66 @@ fn compare_with(
 }
 
 // Opens the three files; standard input comes first, since a file that is opened takes its descriptor where it is closed.
-fn open_and_compare(setup_name: &[u8], name1: &[u8], name2: &[u8], entries: u64) {
+fn open_and_compare(
+    rt: &HostRuntime,
+    streams: Streams,
+    setup_name: &[u8],
+    name1: &[u8],
+    name2: &[u8],
+    entries: u64,
+) {
     if is_input(name1) || is_input(name2) {
-        if checked(STDIN_FILENO, b"-") < 0 {
+        if checked(streams, Ok(rt.stdin()), b"-").is_none() {
             return;
         }
     }
-    let setup = checked(os::open_read(setup_name), setup_name);
-    if setup < 0 {
+    let Some(mut setup) = checked(streams, open(rt, setup_name), setup_name) else {
         return;
-    }
-    let one = open_capture(name1);
-    if one < 0 {
+    };
+    let Some(one) = open_capture(rt, streams, name1) else {
         return;
-    }
-    let two = open_capture(name2);
-    if two < 0 {
+    };
+    let Some(two) = open_capture(rt, streams, name2) else {
         return;
-    }
-    let files = Files {
+    };
+    let mut files = Files {
         first: one,
         second: two,
+        streams,
     };
-    compare_with(setup, setup_name, files, name1, name2, entries);
+    compare_with(&mut setup, setup_name, &mut files, name1, name2, entries);
 }
 
-fn run(entries: u64) {
-    let mut path = io::buffer();
-    let mut path1 = io::buffer();
-    let mut path2 = io::buffer();
-    let n = os::arg(1, &mut path);
-    let n1 = os::arg(2, &mut path1);
-    let n2 = os::arg(3, &mut path2);
+fn run(rt: &HostRuntime, streams: Streams, entries: u64) {
+    let mut path = [0u8; LONGEST_NAME];
+    let mut path1 = [0u8; LONGEST_NAME];
+    let mut path2 = [0u8; LONGEST_NAME];
+    let n = argument(rt, 1, &mut path);
+    let n1 = argument(rt, 2, &mut path1);
+    let n2 = argument(rt, 3, &mut path2);
     if is_input(&path1[..n1]) && is_input(&path2[..n2]) {
-        return tell(b"compare: only one capture can be standard input\n");
+        return streams.tell(b"compare: only one capture can be standard input\n");
     }
-    open_and_compare(&path[..n], &path1[..n1], &path2[..n2], entries);
+    open_and_compare(rt, streams, &path[..n], &path1[..n1], &path2[..n2], entries);
 }
 
-// ENTRIES, of so many arguments.
-fn entries_of(count: usize) -> Number {
-    if count < 5 {
+// ENTRIES, if it is given.
+fn entries_of(rt: &HostRuntime) -> Number {
+    if !has_argument(rt, 4) {
         return Number::Value(MOST_ENTRIES);
     }
     let mut word = [0u8; ARGUMENT];
-    let n = os::arg(4, &mut word);
+    let n = argument(rt, 4, &mut word);
     read_number(&word[..n], MOST_ENTRIES)
 }
 
-fn main() {
-    let count = os::arg_count();
-    if count < 4 {
-        return tell_usage();
+fn main(rt: HostRuntime) {
+    let streams = new_streams(rt.stdout(), rt.stderr());
+    if !has_argument(&rt, 3) || has_argument(&rt, 5) {
+        return tell_usage(streams);
     }
-    if count > 5 {
-        return tell_usage();
-    }
-    match entries_of(count) {
-        Number::Bad => tell_usage(),
-        Number::Value(entries) => run(entries),
+    match entries_of(&rt) {
+        Number::Bad => tell_usage(streams),
+        Number::Value(entries) => run(&rt, streams, entries),
     }
 }

@@ -2,8 +2,10 @@
 ghost use Rattle.std.specs.Prelude.{◌-◌, ◌≤◌};
 
 use crate::line::{tell_line, tell_of};
+use console::streams::Streams;
 use player::read::{Order, Reading, read_line};
 use protocol::state::Settings;
+use std::io::Read;
 use std::num::wrapping_add_u64;
 use text::line::{LONGEST, MOST_BYTES, is_silent};
 use text::part::first;
@@ -120,23 +122,24 @@ fn stage_after(
 }
 
 // Tells which line cannot be used, if this one cannot.
-fn tell_fault(name: &[u8], place: u64, line: &[u8], stage: Stage) {
+fn tell_fault(streams: Streams, name: &[u8], place: u64, line: &[u8], stage: Stage) {
     let Stage::Faulty(fault) = stage else {
         return;
     };
     match fault {
-        Fault::TooLong => tell_line(name, place, line, b" (longer than 8,192 bytes)\n"),
-        Fault::BadLine => tell_line(name, place, line, b" (bad line)\n"),
-        Fault::NoStart => tell_line(name, place, line, b" (not a start line)\n"),
-        Fault::NoSettings => tell_line(name, place, line, b" (not a settings line)\n"),
-        Fault::Later => tell_line(name, place, line, b" (not at time 0)\n"),
-        Fault::OneMore => tell_line(name, place, line, b" (one line too many)\n"),
+        Fault::TooLong => tell_line(streams, name, place, line, b" (longer than 8,192 bytes)\n"),
+        Fault::BadLine => tell_line(streams, name, place, line, b" (bad line)\n"),
+        Fault::NoStart => tell_line(streams, name, place, line, b" (not a start line)\n"),
+        Fault::NoSettings => tell_line(streams, name, place, line, b" (not a settings line)\n"),
+        Fault::Later => tell_line(streams, name, place, line, b" (not at time 0)\n"),
+        Fault::OneMore => tell_line(streams, name, place, line, b" (one line too many)\n"),
     }
 }
 
 // Takes the next part of the file, and what its line adds where that completes one.
-fn read_part(
-    fd: i32,
+fn read_part<R: Read>(
+    streams: Streams,
+    source: &mut R,
     name: &[u8],
     s: Session,
     input: &mut [u8; INPUT],
@@ -148,7 +151,7 @@ fn read_part(
 {
     let r = s.reader;
     let stage = s.stage;
-    let n = read_if_used_up(fd, r, input);
+    let n = read_if_used_up(source, r, input);
     let reader = take_next(r, n, input, line);
     if !reader.complete {
         return Session {
@@ -160,7 +163,7 @@ fn read_part(
     let lines = wrapping_add_u64(s.lines, 1);
     let len = reader.len;
     let next = stage_after(stage, first(line, len), len, own, key);
-    tell_fault(name, lines, first(line, len), next);
+    tell_fault(streams, name, lines, first(line, len), next);
     Session {
         reader,
         stage: next,
@@ -178,14 +181,14 @@ fn is_faulty(s: Session) -> bool {
 }
 
 // What the file came to; one that ended early is told.
-fn setup_of(stage: Stage, name: &[u8]) -> SetUp {
+fn setup_of(streams: Streams, stage: Stage, name: &[u8]) -> SetUp {
     match stage {
         Stage::Begun => {
-            tell_of(name, b": no start line\n");
+            tell_of(streams, name, b": no start line\n");
             SetUp::Unusable
         }
         Stage::Started(_) => {
-            tell_of(name, b": no settings line\n");
+            tell_of(streams, name, b": no settings line\n");
             SetUp::Unusable
         }
         Stage::Whole(start, settings) => SetUp::Usable(start, settings),
@@ -194,8 +197,9 @@ fn setup_of(stage: Stage, name: &[u8]) -> SetUp {
 }
 
 // Reads all of it, up to a line that cannot be used.
-pub(crate) fn read_setup(
-    fd: i32,
+pub(crate) fn read_setup<R: Read>(
+    streams: Streams,
+    source: &mut R,
     name: &[u8],
     own: &mut [u8; MOST_BYTES],
     key: &mut [u8; MOST_BYTES],
@@ -208,8 +212,8 @@ pub(crate) fn read_setup(
         lines: 0,
     };
     while s.reader.left > 0 && !is_faulty(s) {
-        s = read_part(fd, name, s, &mut input, &mut line, own, key);
+        s = read_part(streams, source, name, s, &mut input, &mut line, own, key);
     }
     let stage = s.stage;
-    setup_of(stage, name)
+    setup_of(streams, stage, name)
 }

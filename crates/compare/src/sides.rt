@@ -2,9 +2,12 @@
 use crate::line::{LONGEST_ENTRY, print_entries, print_finding};
 use comparison::compare::finding_of;
 use comparison::lockstep::{Advance, Comparison, Turn, new_comparison, take_turn};
+use console::source::Source;
+use console::streams::Streams;
 use pcap::record::{MOST_CAPTURED, RECORD_HEADER};
 use pcap::window::refill;
 use protocol::state::Listener;
+use std::io::Read;
 use text::part::first;
 
 // The most entries that are listed.
@@ -41,11 +44,12 @@ struct Walk {
     going: bool,
 }
 
-// The descriptors of the captures.
+// The captures, and the standard streams.
 #[derive(Drop)]
 pub(crate) struct Files {
-    pub(crate) first: i32,
-    pub(crate) second: i32,
+    pub(crate) first: Source,
+    pub(crate) second: Source,
+    pub(crate) streams: Streams,
 }
 
 fn is_going(a: Advance) -> bool {
@@ -93,20 +97,22 @@ fn moved(side: Side, at: usize) -> Side {
 
 // Reads on in a side's window; where nothing comes, that was all.
 fn read_on(
-    fd: i32,
+    capture: &mut Source,
+    streams: Streams,
     name: &[u8],
     window: &mut [u8; WINDOW],
     side: Side,
     input: &mut [u8; INPUT],
 ) -> Side {
     let mut s = side;
-    let got = libc::read(fd, input);
-    if got < 0 {
-        os::fail(name);
-        s.failed = true;
-        return s;
-    }
-    let n = io::count(got, input);
+    let n = match capture.read(input) {
+        Ok(n) => n,
+        Err(e) => {
+            streams.fail(name, e);
+            s.failed = true;
+            return s;
+        }
+    };
     if n == 0 {
         s.last = true;
         return s;
@@ -167,7 +173,7 @@ fn walk_after(s: Walk, a: Advance) -> Walk {
 fn go_on(
     before: Walk,
     a: Advance,
-    files: Files,
+    files: &mut Files,
     name1: &[u8],
     name2: &[u8],
     window1: &mut [u8; WINDOW],
@@ -176,8 +182,9 @@ fn go_on(
     list: &[u64],
     lines: &mut [u8; LINES],
 ) -> Walk {
+    let streams = files.streams;
     let s = walk_after(before, a);
-    if !print_entries(lines, list, before.written, s.written) {
+    if !print_entries(streams, lines, list, before.written, s.written) {
         return stopped(s);
     }
     let side1 = s.first;
@@ -185,11 +192,11 @@ fn go_on(
     let turn = a.turn;
     match turn {
         Turn::Went => s,
-        Turn::NeedsFirst => with_first(s, read_on(files.first, name1, window1, side1, input)),
-        Turn::NeedsSecond => with_second(s, read_on(files.second, name2, window2, side2, input)),
+        Turn::NeedsFirst => with_first(s, read_on(&mut files.first, streams, name1, window1, side1, input)),
+        Turn::NeedsSecond => with_second(s, read_on(&mut files.second, streams, name2, window2, side2, input)),
         Turn::Over(ends) => {
             let c = s.comparison;
-            print_finding(finding_of(c, ends));
+            print_finding(streams, finding_of(c, ends));
             stopped(s)
         }
     }
@@ -198,7 +205,7 @@ fn go_on(
 // Makes all turns that the windows allow, and goes on.
 fn walk_on(
     s: Walk,
-    files: Files,
+    files: &mut Files,
     name1: &[u8],
     name2: &[u8],
     window1: &mut [u8; WINDOW],
@@ -224,7 +231,7 @@ fn walk_on(
 }
 
 // Walks both captures. A proved loop has to end, and a capture need not: the turns are counted down from a number that no run uses up.
-fn walk_captures(l: Listener, files: Files, name1: &[u8], name2: &[u8], list: &mut [u64]) {
+fn walk_captures(l: Listener, files: &mut Files, name1: &[u8], name2: &[u8], list: &mut [u64]) {
     let mut window1 = [0u8; WINDOW];
     let mut window2 = [0u8; WINDOW];
     let mut input = [0u8; INPUT];
@@ -278,7 +285,7 @@ fn first_numbers(list: &mut [u64], n: usize) -> &mut [u64] {
 // Compares two captures, and prints what was found.
 pub(crate) fn compare_captures(
     l: Listener,
-    files: Files,
+    files: &mut Files,
     name1: &[u8],
     name2: &[u8],
     entries: u64,

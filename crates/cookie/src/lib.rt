@@ -1,5 +1,6 @@
 // The Fast Open cookie: made, and checked for an opening.
 #![tactic(auto)]
+
 ghost use Rattle.std.specs.Prelude.{◌≡◌, true, false, ◌&&◌, not};
 ghost use Rattle.protocol.specs.Cookie.{cookie_under, found, counts, right_under, right};
 ghost use Rattle.cookie.specs.Check.{cookie_check};

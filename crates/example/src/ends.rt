@@ -1,7 +1,9 @@
 // Both ends after an exchange, and the lines that the program prints.
 use client::state::Memory;
-use libc::STDOUT_FILENO;
+use console::streams::Streams;
 use protocol::state::Listener;
+use text::part::first;
+use text::put::put_number;
 
 #[derive(Drop)]
 pub(crate) struct Ends {
@@ -11,10 +13,10 @@ pub(crate) struct Ends {
 }
 
 // The number is 0 where every call was done. Else it is that of a refusal: it is printed, and the program stops.
-pub(crate) fn finish(memory: Memory, listener: Listener, number: u8) -> Ends {
+pub(crate) fn finish(streams: Streams, memory: Memory, listener: Listener, number: u8) -> Ends {
     if number != 0 {
-        print_number(b"refused ", number as u64);
-        print(b"\n");
+        print_number(streams, b"refused ", number as u64);
+        streams.offer(b"\n");
     }
     Ends {
         memory,
@@ -23,26 +25,24 @@ pub(crate) fn finish(memory: Memory, listener: Listener, number: u8) -> Ends {
     }
 }
 
-fn print(text: &[u8]) {
-    io::write_all(STDOUT_FILENO, text);
-}
-
-fn print_number(before: &[u8], n: u64) {
-    print(before);
-    io::print_decimal(STDOUT_FILENO, n);
+fn print_number(streams: Streams, before: &[u8], n: u64) {
+    let mut digits = [0u8; 20];
+    let end = put_number(&mut digits, 0, n);
+    streams.offer(before);
+    streams.offer(first(&digits, end));
 }
 
 // A line that ends in text.
-pub(crate) fn print_line(before: &[u8], data: &[u8]) {
-    print(before);
-    print(data);
-    print(b"\n");
+pub(crate) fn print_line(streams: Streams, before: &[u8], data: &[u8]) {
+    streams.offer(before);
+    streams.offer(data);
+    streams.offer(b"\n");
 }
 
 // A line with a number of bytes and one more number.
-pub(crate) fn print_counts(who: &[u8], bytes: usize, what: &[u8], n: u32) {
-    print_number(who, bytes as u64);
-    print(b" bytes, ");
-    print_number(what, n as u64);
-    print(b"\n");
+pub(crate) fn print_counts(streams: Streams, who: &[u8], bytes: usize, what: &[u8], n: u32) {
+    print_number(streams, who, bytes as u64);
+    streams.offer(b" bytes, ");
+    print_number(streams, what, n as u64);
+    streams.offer(b"\n");
 }

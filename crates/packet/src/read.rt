@@ -22,6 +22,7 @@ pub enum Carried {
 }
 
 // Whether a packet is a whole IPv4 one with TCP: no fragment, its header inside it, its total length its own. The header's checksum is not looked at.
+#[tactic(auto, unfolding(crate::specs::Ip::is_whole_v4))]
 fn is_whole_v4(p: &[u8]) -> bool
     ensures { result ≡ is_whole_v4 p.now }
 {
@@ -53,6 +54,7 @@ fn is_whole_v4(p: &[u8]) -> bool
 }
 
 // Whether a packet is a whole IPv6 one with TCP and no extension header.
+#[tactic(auto, unfolding(crate::specs::Ip::is_whole_v6))]
 fn is_whole_v6(p: &[u8]) -> bool
     ensures { result ≡ is_whole_v6 p.now }
 {
@@ -79,6 +81,7 @@ fn is_whole(f: Family, p: &[u8]) -> bool
 }
 
 // Where the TCP segment of a whole packet begins.
+#[tactic(auto, unfolding(crate::specs::Ip::header_length))]
 fn header_length(f: Family, p: &[u8]) -> usize
     ensures { result ≡ header_length f p.now }
 {
@@ -104,6 +107,7 @@ fn dest_part(f: Family, p: &[u8]) -> &[u8]
 }
 
 // Finds the TCP segment of a whole packet to the address whose block this is.
+#[tactic(auto, using(crate::proofs::Found::not_whole, crate::proofs::Found::decided))]
 pub fn find_tcp(f: Family, own: [u8; 16], p: &[u8]) -> Carried
     ensures { result ≡ carried_to f own p.now }
 {

@@ -6,9 +6,9 @@ ghost use Rattle.pcap.specs.Write.{put_by, writing};
 ghost use Rattle.packet.specs.Ip.{least_header};
 ghost use Rattle.packet.specs.Write.{header_v4, header_v6, checked_v4, packet_check, packet_bytes};
 
-use lists::copy::copy;
 use crate::read::{HEADER_V4, HEADER_V6, TCP};
 use endpoint::address::Family;
+use lists::copy::copy;
 use pcap::record::MOST_CAPTURED;
 use pcap::write::{Written, refused};
 use segment::checksum::add_bytes;
@@ -24,6 +24,7 @@ fn least_header(f: Family) -> usize
 }
 
 // An IPv4 header for a segment of n bytes, between the addresses at the start of two blocks.
+#[tactic(auto, unfolding(crate::specs::Write::header_v4))]
 fn header_v4(own: [u8; 16], dst: [u8; 16], n: usize, check: u16) -> [u8; 20]
     requires { n ≤ 4096 }
     ensures { result ≡ header_v4 own dst n check }
@@ -54,6 +55,7 @@ fn header_v4(own: [u8; 16], dst: [u8; 16], n: usize, check: u16) -> [u8; 20]
 }
 
 // With the checksum that makes its sum 65,535.
+#[tactic(auto, unfolding(crate::specs::Write::checked_v4))]
 fn checked_v4(own: [u8; 16], dst: [u8; 16], n: usize) -> [u8; 20]
     requires { n ≤ 4096 }
     ensures { result ≡ checked_v4 own dst n }
@@ -64,6 +66,7 @@ fn checked_v4(own: [u8; 16], dst: [u8; 16], n: usize) -> [u8; 20]
 }
 
 // An IPv6 header.
+#[tactic(auto, unfolding(crate::specs::Write::header_v6))]
 fn header_v6(own: [u8; 16], dst: [u8; 16], n: usize) -> [u8; 40]
     requires { n ≤ 4096 }
     ensures { result ≡ header_v6 own dst n }
@@ -123,6 +126,7 @@ fn put_behind(out: &mut [u8], header: &[u8], tcp: &[u8])
 }
 
 // Puts the packet of a segment, between the addresses of a family that two blocks have.
+#[tactic(auto, unfolding(crate::specs::Write::packet_bytes))]
 fn put_packet(out: &mut [u8], f: Family, own: [u8; 16], dst: [u8; 16], tcp: &[u8])
     requires { (least_header f + length tcp.now ≤ 4096) × (least_header f + length tcp.now ≤ length out.old) }
     ensures { out.new ≡ overwrite (packet_bytes f own dst tcp.now) out.old }
@@ -140,6 +144,7 @@ fn put_packet(out: &mut [u8], f: Family, own: [u8; 16], dst: [u8; 16], tcp: &[u8
 }
 
 // Writes the packet that carries a segment from our address to another: 15 where it has more than the 4,096 bytes of a record, then 11 where there is no room.
+#[tactic(auto, using(crate::proofs::Found::header_bounds))]
 pub fn write_packet(out: &mut [u8], f: Family, own: [u8; 16], dst: [u8; 16], tcp: &[u8]) -> Written
     ensures value { result ≡ writing (packet_check f (length tcp.now) (length out.old)) (packet_bytes f own dst tcp.now) }
     ensures out_after { out.new ≡ overwrite (put_by (packet_check f (length tcp.now) (length out.old)) (packet_bytes f own dst tcp.now)) out.old }

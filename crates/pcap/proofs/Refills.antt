@@ -50,7 +50,7 @@ module _ (at end : ℕ) (w : List ℕ) where
       (moved : mid ≡ overwrite (left_in at end w) w)
       (kept : length mid ≡ length w)
       (fits : fit ≡ take (length mid - n) read)
-      (put : last ≡ take (length fit) fit ++ drop (length fit) (take (length mid - n) (drop n mid))) where
+      (put : last ≡ overwrite fit (take (length mid - n) (drop n mid))) where
     in_parts : left_in at end w ++ fit ≡ refilled at end read w
     in_parts =
         let left = left_in at end w in
@@ -63,5 +63,6 @@ module _ (at end : ℕ) (w : List ℕ) where
     refill_done =
         let left = left_in at end w in (
           rw count (sym (length-append left fit)) ∙ ap length in_parts,
-          headed w left fit mid last n (sym count) (omega (arith, left-fits)) (moved ∙ sym moved_all) put ∙ ap (λ (x : List ℕ). overwrite x w) in_parts,
+          headed w left fit mid last n (sym count) (omega (arith, left-fits)) (moved ∙ sym moved_all)
+              (put ∙ ap (λ (x : List ℕ). x ++ drop (length fit) (take (length mid - n) (drop n mid))) (sym (take-length fit))) ∙ ap (λ (x : List ℕ). overwrite x w) in_parts,
         )

@@ -1,8 +1,13 @@
--- The checks of what is written, one after the other, and how long the headers are. Assumes nothing.
-use Prim.Native.Nat.{ℕ, ◌+◌, ◌≤◌, ◌<◌}
-use mathlib.Core.Path.{◌≡◌, refl}
+-- The checks of what is written, one after the other, how long the headers are, and what is put behind them. Assumes nothing.
+use Prim.Native.Nat.{ℕ, ◌+◌, ◌-◌, ◌≤◌, ◌<◌}
+use mathlib.Core.Path.{◌≡◌, refl, sym, ap, ◌∙◌}
+use mathlib.Core.List.{List, ◌++◌}
 use borrow.Author.Tests.{lt-ltb, le-ltb}
-use lib.ListN.{length}
+use borrow.Rule.Slice.PartMut.{put_mid}
+use lib.ListN.{length, take, drop}
+use lib.Seq.{take-length}
+use Rattle.lists.specs.Bytes.{overwrite}
+use Rattle.lists.proofs.Lent.{headed}
 use Rattle.segment.specs.declared.refusal.Refusal.TheVariants.{Output, BadCapture}
 use Rattle.segment.specs.declared.refusal.Check.TheVariants.{Clear, Refused}
 use Rattle.pcap.specs.Write.{head_in, file_header_in, file_check, record_check}
@@ -34,3 +39,13 @@ pub file_length : (o : ByteOrder) → length (file_header_in o) ≡ 24
 unfolding file_header_in
 file_length LowFirst = refl
 file_length HighFirst = refl
+
+-- a header put at the output's start, and then bytes behind it
+pub put_headed : (out h src mid last : List ℕ) (n : ℕ) → length h ≡ n → n ≤ length out
+    → mid ≡ overwrite h out
+    → last ≡ overwrite src (take (length mid - n) (drop n mid))
+    → put_mid n (length mid - n) mid last ≡ overwrite (h ++ src) out
+put_headed out h src mid last n e k m l =
+    headed out h src mid last n e k
+    (m ∙ ap (λ (x : List ℕ). x ++ drop (length h) out) (sym (take-length h)))
+    (l ∙ ap (λ (x : List ℕ). x ++ drop (length src) (take (length mid - n) (drop n mid))) (sym (take-length src)))

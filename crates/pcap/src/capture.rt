@@ -1,5 +1,5 @@
-// A capture in a lent buffer, walked record by record: a struct that holds the buffer and a place in it. No checker covers a struct that holds a slice, so
-// the functions over it are thin, and proved by hand; the work is `next_at`'s.
+// A capture in a lent buffer, walked record by record: a struct that holds the buffer and a place in it. The functions over it are thin; the work is
+// `next_at`'s.
 ghost use Rattle.std.specs.Prelude.{◌≡◌};
 ghost use Rattle.pcap.specs.Record.{next_in};
 

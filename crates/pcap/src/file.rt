@@ -39,6 +39,7 @@ pub(crate) fn long_in(order: ByteOrder, s: &[u8], i: usize) -> u32
 }
 
 // Whether the packets are raw IP: the whole word counts, in the file's byte order.
+#[tactic(auto, unfolding(crate::specs::File::linked))]
 fn check_link(order: ByteOrder, s: &[u8]) -> FileHeader
     requires { 24 ≤ length s.now }
     ensures { result ≡ linked order s.now }
@@ -50,6 +51,7 @@ fn check_link(order: ByteOrder, s: &[u8]) -> FileHeader
 }
 
 // Reads the file header at a capture's start. Version, zone, accuracy and snap length are not looked at.
+#[tactic(auto, unfolding(crate::specs::File::header_of))]
 pub fn read_file_header(file: &[u8]) -> FileHeader
     ensures { result ≡ header_of file.now }
 {

@@ -43,6 +43,7 @@ pub fn check_of(next: Next) -> Check
 }
 
 // The header at the start of what is left.
+#[tactic(auto, unfolding(crate::specs::Record::head_of))]
 fn head_of(order: ByteOrder, rest: &[u8]) -> RecordHead
     requires { 16 ≤ length rest.now }
     ensures { result ≡ head_of order rest.now }
@@ -56,6 +57,7 @@ fn head_of(order: ByteOrder, rest: &[u8]) -> RecordHead
 }
 
 // What stands at the start of what is left of a capture. A header that states too many bytes is refused 15 even where the bytes are cut.
+#[tactic(auto, unfolding(crate::specs::Record::next_of, crate::specs::Record::bodied))]
 pub fn next_record(order: ByteOrder, rest: &[u8]) -> Next
     ensures { result ≡ next_of order rest.now }
 {
@@ -92,6 +94,7 @@ fn place_from(at: usize) -> usize
 }
 
 // The reader: what stands at a place of a whole capture. A place within the file header stands for the first record.
+#[tactic(auto, unfolding(crate::specs::Record::next_in))]
 pub fn next_at(file: &[u8], at: usize) -> Next
     ensures { result ≡ next_in file.now at }
 {

@@ -52,6 +52,7 @@ pub fn new_walker() -> Walker
 }
 
 // Whether so many bytes more, and a record more, can be counted.
+#[tactic(auto, unfolding(crate::specs::Walker::has_room))]
 fn has_room(w: Walker, size: usize) -> bool
     ensures { result ≡ has_room w size }
 {
@@ -72,6 +73,7 @@ fn stand(w: Walker, taken: Taken, at: usize) -> Step
     }
 }
 
+#[tactic(auto, using(crate::proofs::Steps::room), unfolding(crate::specs::Walker::header_taken))]
 fn take_header(w: Walker, window: &[u8], at: usize) -> Step
     ensures { result ≡ step_by w (header_taken w (drop at window.now)) at }
 {
@@ -98,6 +100,7 @@ fn take_header(w: Walker, window: &[u8], at: usize) -> Step
     }
 }
 
+#[tactic(auto, using(crate::proofs::Steps::room, crate::proofs::Next::whole), unfolding(crate::specs::Walker::record_taken))]
 fn take_record(w: Walker, order: ByteOrder, window: &[u8], at: usize) -> Step
     ensures { result ≡ step_by w (record_taken w order (drop at window.now)) at }
 {
@@ -125,6 +128,7 @@ fn take_record(w: Walker, order: ByteOrder, window: &[u8], at: usize) -> Step
 }
 
 // Takes what stands at a place of the window.
+#[tactic(auto, unfolding(crate::specs::Walker::step_of))]
 pub fn take_next(w: Walker, window: &[u8], at: usize) -> Step
     ensures { result ≡ step_of w window.now at }
 {
@@ -136,6 +140,7 @@ pub fn take_next(w: Walker, window: &[u8], at: usize) -> Step
 }
 
 // The number that a walk ends with, where no byte is to come behind the window.
+#[tactic(auto, unfolding(crate::specs::Walker::finish_of))]
 pub fn finish(w: Walker, window: &[u8], at: usize) -> Check
     ensures { result ≡ finish_of w (drop at window.now) }
 {

@@ -5,9 +5,9 @@ ghost use Rattle.std.specs.Prelude.{◌≡◌, length};
 ghost use Rattle.lists.specs.Bytes.{overwrite};
 ghost use Rattle.pcap.specs.Write.{file_header_bytes, head_bytes, record_bytes, file_check, record_check, put_by, writing};
 
-use lists::copy::copy;
 use crate::file::FILE_HEADER;
 use crate::record::{MOST_CAPTURED, RECORD_HEADER};
+use lists::copy::copy;
 use segment::refusal::{Check, Refusal};
 
 // What a write comes to, and how many bytes it wrote.
@@ -28,6 +28,7 @@ pub fn refused(why: Refusal) -> Written
 }
 
 // Writes a capture's file header; 11 where there is no room.
+#[tactic(auto, unfolding(crate::specs::Write::file_header_in))]
 pub fn write_file_header(out: &mut [u8]) -> Written
     ensures value { result ≡ writing (file_check (length out.old)) file_header_bytes }
     ensures out_after { out.new ≡ overwrite (put_by (file_check (length out.old)) file_header_bytes) out.old }
@@ -46,6 +47,7 @@ pub fn write_file_header(out: &mut [u8]) -> Written
 }
 
 // A record's header by value.
+#[tactic(auto, unfolding(crate::specs::Write::head_in))]
 fn head_bytes(seconds: u32, micros: u32, captured: u32, original: u32) -> [u8; 16]
     ensures { result ≡ head_bytes seconds micros captured original }
 {

@@ -1,12 +1,14 @@
 // Plays a script of a listener's calls from standard input and prints a line for each: what the call came to. A line is answered as soon as it is
 // complete, so that the program can be driven through a pipe.
 #![tactic(auto)]
+
 ghost use Rattle.std.specs.Prelude.{◌-◌, ◌≤◌};
 
-use libc::{STDIN_FILENO, STDOUT_FILENO};
+use console::streams::{Streams, new_streams};
 use listener::calls::never_started;
 use player::play::play_line;
 use protocol::state::Listener;
+use std::io::Stdin;
 use text::line::LONGEST;
 use text::part::first;
 use text::reader::{INPUT, Reader, new_reader, read_if_used_up, take_next};
@@ -21,20 +23,26 @@ struct Session {
 }
 
 // Plays a line, and prints what it came to.
-fn print_line(l: Listener, line: &[u8], len: usize) -> Listener {
+fn print_line(streams: Streams, l: Listener, line: &[u8], len: usize) -> Listener {
     let mut text = [0u8; TEXT];
     let p = play_line(l, line, len, &mut text);
     let n = p.len;
-    io::write_all(STDOUT_FILENO, first(&text, n));
+    streams.offer(first(&text, n));
     p.listener
 }
 
 // Takes the next part of the input, and plays the line where that completes one.
-fn play_part(s: Session, input: &mut [u8; INPUT], line: &mut [u8; LONGEST]) -> Session
+fn play_part(
+    streams: Streams,
+    source: &mut Stdin,
+    s: Session,
+    input: &mut [u8; INPUT],
+    line: &mut [u8; LONGEST],
+) -> Session
     ensures { result.reader.left ≤ s.reader.left - 1 }
 {
     let r = s.reader;
-    let n = read_if_used_up(STDIN_FILENO, r, input);
+    let n = read_if_used_up(source, r, input);
     let reader = take_next(r, n, input, line);
     let listener = s.listener;
     if !reader.complete {
@@ -43,11 +51,13 @@ fn play_part(s: Session, input: &mut [u8; INPUT], line: &mut [u8; LONGEST]) -> S
     let len = reader.len;
     Session {
         reader,
-        listener: print_line(listener, first(line, len), len),
+        listener: print_line(streams, listener, first(line, len), len),
     }
 }
 
-fn main() {
+fn main(rt: HostRuntime) {
+    let streams = new_streams(rt.stdout(), rt.stderr());
+    let mut source = rt.stdin();
     let mut input = [0u8; INPUT];
     let mut line = [0u8; LONGEST];
     let mut s = Session {
@@ -55,6 +65,6 @@ fn main() {
         listener: never_started(),
     };
     while s.reader.left > 0 {
-        s = play_part(s, &mut input, &mut line);
+        s = play_part(streams, &mut source, s, &mut input, &mut line);
     }
 }

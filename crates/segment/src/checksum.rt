@@ -29,6 +29,7 @@ fn fold(total: u32) -> u16
 }
 
 // A word with its two bytes swapped. The contract repeats that it has 16 bits: a caller's proof needs it.
+#[tactic(auto, unfolding(crate::specs::Totals::swapped))]
 fn swap_bytes(x: u16) -> u16
     ensures { (result ≡ swapped x) × (x < 65536) }
 {

@@ -36,6 +36,7 @@ pub enum Kind {
 }
 
 // Whether a segment is refused for its shape: its length, its data offset, or a header that is longer than it.
+#[tactic(auto, unfolding(crate::specs::Header::malformed))]
 pub fn is_malformed(seg: &[u8]) -> bool
     ensures { result ≡ malformed seg.now }
 {
@@ -54,6 +55,7 @@ pub fn is_malformed(seg: &[u8]) -> bool
 }
 
 // The fields of a segment that is long enough to have a header.
+#[tactic(auto, unfolding(crate::specs::Header::fields_of))]
 fn fields(seg: &[u8]) -> Header
     requires { 20 ≤ length seg.now }
     ensures { result ≡ fields_of seg.now }
@@ -69,6 +71,7 @@ fn fields(seg: &[u8]) -> Header
 }
 
 // The header of a segment, or that it is malformed.
+#[tactic(auto, using(crate::proofs::Malformed::formed), unfolding(crate::specs::Header::shape_of))]
 pub fn read_header(seg: &[u8]) -> Shape
     ensures { result ≡ shape_of seg.now }
 {
@@ -116,6 +119,7 @@ pub fn payload_after(seg: &[u8], offset: u8) -> &[u8]
 }
 
 // The option area, as a part of the segment: at most 40 bytes; empty where the segment is malformed.
+#[tactic(auto, using(crate::proofs::Malformed::formed), unfolding(crate::specs::Header::option_area))]
 pub fn option_area(seg: &[u8]) -> &[u8]
     ensures { result.now ≡ option_area seg.now }
 {
@@ -126,6 +130,7 @@ pub fn option_area(seg: &[u8]) -> &[u8]
 }
 
 // The payload, as a part of the segment; empty where the segment is malformed.
+#[tactic(auto, using(crate::proofs::Malformed::formed), unfolding(crate::specs::Header::payload_of))]
 pub fn payload(seg: &[u8]) -> &[u8]
     ensures { result.now ≡ payload_of seg.now }
 {
@@ -144,6 +149,7 @@ pub(crate) const RST: u8 = 4;
 
 pub(crate) const ACK: u8 = 16;
 
+#[tactic(auto, unfolding(crate::specs::Header::has))]
 fn has_bit(flags: u8, bit: u8) -> bool
     requires { 1 ≤ bit }
     ensures { result ≡ has flags bit }
@@ -152,6 +158,7 @@ fn has_bit(flags: u8, bit: u8) -> bool
 }
 
 // Whether a segment has the SYN flag; false where it has no byte of flags.
+#[tactic(auto, unfolding(crate::specs::Header::has))]
 pub(crate) fn has_syn(seg: &[u8]) -> bool
     ensures { result ≡ has (byte_at seg.now 13) SYN }
 {
@@ -162,6 +169,7 @@ pub(crate) fn has_syn(seg: &[u8]) -> bool
 }
 
 // The kind of segment, by its flags.
+#[tactic(auto, unfolding(crate::specs::Header::kind_of))]
 pub fn kind_of(flags: u8) -> Kind
     ensures { result ≡ kind_of flags }
 {
@@ -187,6 +195,7 @@ pub fn kind_of(flags: u8) -> Kind
 }
 
 // Whether the flags are those of a SYN-ACK.
+#[tactic(auto, unfolding(crate::specs::Header::is_syn_ack))]
 pub fn is_syn_ack(flags: u8) -> bool
     ensures { result ≡ is_syn_ack flags }
 {

@@ -63,6 +63,7 @@ pub fn first_mss(found: Mss, next: Mss) -> Mss
 }
 
 // Whether a cookie may have n bytes.
+#[tactic(auto, unfolding(crate::specs::Options::is_cookie_length))]
 pub fn is_cookie_length(n: usize) -> bool
     ensures { result ≡ is_cookie_length n }
 {
@@ -76,6 +77,7 @@ pub fn is_cookie_length(n: usize) -> bool
 }
 
 // An option with n bytes of cookie at a place.
+#[tactic(auto, unfolding(crate::specs::Options::cookie_at))]
 fn cookie_at(coding: Coding, at: usize, n: usize) -> FastOpenOption
     ensures { result ≡ cookie_at coding at n }
 {
@@ -108,6 +110,7 @@ fn counts_older(codings: Codings) -> bool
 }
 
 // Whether the option is in the older coding. Kind 254 is every experiment's.
+#[tactic(auto, unfolding(crate::specs::Options::is_in))]
 fn is_older(area: &[u8], i: usize, len: usize) -> bool
     requires { (2 ≤ len) × (i + len ≤ length area.now) }
     ensures { result ≡ is_in Coding.Older area.now i len }
@@ -124,6 +127,7 @@ fn is_older(area: &[u8], i: usize, len: usize) -> bool
     area[i + 3] == 0x89
 }
 
+#[tactic(auto, unfolding(crate::specs::Options::fast_open_option, crate::specs::Options::option_in, crate::specs::Options::is_in))]
 fn fast_open_option(codings: Codings, area: &[u8], i: usize, len: usize) -> FastOpenOption
     requires { (2 ≤ len) × (i + len ≤ length area.now) }
     ensures { result ≡ fast_open_option codings area.now i len }
@@ -178,6 +182,7 @@ pub fn no_remarks() -> Remarks
 }
 
 // Whether the option is a Fast Open option in a coding that counts, whatever its length.
+#[tactic(auto, unfolding(crate::specs::Remarks::is_fast_open, crate::specs::Options::is_in))]
 fn is_fast_open(codings: Codings, area: &[u8], i: usize, len: usize) -> bool
     requires { (2 ≤ len) × (i + len ≤ length area.now) }
     ensures { result ≡ is_fast_open codings area.now i len }
@@ -224,6 +229,7 @@ struct Places {
 }
 
 // Whether the option is an MSS that counts.
+#[tactic(auto, unfolding(crate::specs::Options::is_mss_option))]
 fn is_mss(area: &[u8], i: usize, len: usize) -> bool
     requires { (2 ≤ len) × (i + len ≤ length area.now) }
     ensures { result ≡ is_mss_option area.now i len }
@@ -293,6 +299,7 @@ fn find_options(codings: Codings, area: &[u8]) -> Places
 }
 
 // What begins at a place.
+#[tactic(auto, unfolding(crate::specs::Places::mss_value_at))]
 fn mss_from(area: &[u8], at: usize) -> Mss
     requires { MssFits area.now at }
     ensures { result ≡ mss_value_at area.now at }
@@ -303,6 +310,7 @@ fn mss_from(area: &[u8], at: usize) -> Mss
     Mss::NotGiven
 }
 
+#[tactic(auto, unfolding(crate::specs::Places::fast_at))]
 fn fast_from(codings: Codings, area: &[u8], at: usize) -> FastOpenOption
     requires { FastFits codings area.now at }
     ensures { result ≡ fast_at codings area.now at }

@@ -1,21 +1,21 @@
 // Repeats one piece of work on built-in data and prints a digest of its results, so that a run can be timed and its results compared:
 // `timing WORK COUNT LIVE PAYLOAD`, with LIVE the connections that the listener has already and PAYLOAD the length of the data.
 #![tactic(auto)]
+
 mod calls;
 mod data;
 mod pieces;
 mod records;
 
-use libc::STDOUT_FILENO;
+use console::arguments::{argument, has_argument};
+use console::streams::{Streams, new_streams};
 use text::number::{Number, read_number};
+use text::part::first;
+use text::put::{put, put_number};
 use text::word::is_word;
 
-fn print(text: &[u8]) {
-    io::write_all(STDOUT_FILENO, text);
-}
-
-fn print_usage() {
-    print(
+fn print_usage(streams: Streams) {
+    streams.offer(
         b"usage: timing block|expand|checksum|options|early|turned|shared|request|repeat|completion|refusal|full|unknown|walk COUNT LIVE PAYLOAD\n",
     );
 }
@@ -75,9 +75,9 @@ fn digest_of(work: &[u8], count: u64, live: u64, payload: u64) -> Digest {
 }
 
 // The number in an argument.
-fn number_asked(place: usize, most: u64) -> Number {
+fn number_asked(rt: &HostRuntime, place: usize, most: u64) -> Number {
     let mut word = [0u8; 32];
-    let n = os::arg(place, &mut word);
+    let n = argument(rt, place, &mut word);
     read_number(&word[..n], most)
 }
 
@@ -89,28 +89,31 @@ fn longest(work: &[u8]) -> u64 {
     1460
 }
 
-fn run(work: &[u8]) {
-    let Number::Value(count) = number_asked(2, u64::MAX) else {
-        return print_usage();
+fn run(rt: &HostRuntime, streams: Streams, work: &[u8]) {
+    let Number::Value(count) = number_asked(rt, 2, u64::MAX) else {
+        return print_usage(streams);
     };
-    let Number::Value(live) = number_asked(3, 64) else {
-        return print_usage();
+    let Number::Value(live) = number_asked(rt, 3, 64) else {
+        return print_usage(streams);
     };
-    let Number::Value(payload) = number_asked(4, longest(work)) else {
-        return print_usage();
+    let Number::Value(payload) = number_asked(rt, 4, longest(work)) else {
+        return print_usage(streams);
     };
     let Digest::Of(digest) = digest_of(work, count, live, payload) else {
-        return print_usage();
+        return print_usage(streams);
     };
-    io::print_decimal(STDOUT_FILENO, digest);
-    print(b"\n");
+    let mut line = [0u8; 21];
+    let n = put_number(&mut line, 0, digest);
+    let end = put(&mut line, n, b"\n");
+    streams.offer(first(&line, end));
 }
 
-fn main() {
-    if os::arg_count() != 5 {
-        return print_usage();
+fn main(rt: HostRuntime) {
+    let streams = new_streams(rt.stdout(), rt.stderr());
+    if !has_argument(&rt, 4) || has_argument(&rt, 5) {
+        return print_usage(streams);
     }
     let mut work = [0u8; 16];
-    let n = os::arg(1, &mut work);
-    run(&work[..n]);
+    let n = argument(&rt, 1, &mut work);
+    run(&rt, streams, &work[..n]);
 }
