@@ -12,7 +12,6 @@ ghost use Rattle.protocol.specs.Call.{Call};
 ghost use Rattle.protocol.specs.Refusals.{release_of};
 ghost use Rattle.protocol.specs.Step.{blank, fresh_listener, never_started, start_of, outcome, step, output_of, pending_number};
 
-use lists::copy::copy;
 use crate::outcome::new_outcome;
 use cipher::expand_key;
 use decisions::action::{
@@ -26,6 +25,7 @@ use decisions::checks::{
 use decisions::reply::write_from;
 use endpoint::address::{Family, block_of, family_of, is_size};
 use endpoint::checks::{check_name, check_time};
+use lists::copy::copy;
 use protocol::outcome::{Event, Outcome, Started};
 use protocol::slots::{SLOTS, Status};
 use protocol::state::{

@@ -1,3 +1,4 @@
 // A capture fed to a listener, record by record.
 #![tactic(auto)]
+
 pub mod feed;

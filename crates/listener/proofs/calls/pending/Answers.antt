@@ -1,0 +1,12 @@
+-- A listener that was started, or not.
+use Rattle.std.proofs.Common.{refl}
+use Rattle.protocol.specs.Step.{pending_number}
+use Rattle.listener.proofs.calls.pending.Goals as goal
+
+pub returns-then-local : goal.returns-then-local
+unfolding pending_number
+returns-then-local c = simp c.if-local.true c.count_pending.ensures
+
+pub returns : goal.returns
+unfolding pending_number
+returns c = simp c.if-local.false refl
