@@ -26,7 +26,7 @@ pub struct Attempt {
 }
 
 // What happened: an opening was written with so many bytes of data; an answer acknowledges so many of them; a failure was reported.
-#[derive(Drop)]
+#[derive(Clone, Copy, Drop)]
 pub enum Event {
     Refused(Refusal),
     Opened(u32),

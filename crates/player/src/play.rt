@@ -20,7 +20,7 @@ use text::part::{first, first_mut};
 use text::put::put_bad_line;
 
 // The listener next, the reply, and how many bytes of text were put.
-#[derive(Drop)]
+#[derive(Clone, Copy, Drop)]
 pub struct Played {
     pub listener: Listener,
     pub reply: Reply,

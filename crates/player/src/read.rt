@@ -15,7 +15,7 @@ use text::number::{Number, Number16, Number32};
 use text::word::is_call;
 
 // A request. A byte string is given by its length: an address, and the key of a key call, are in the first buffer, a start's key and a segment in the second.
-#[derive(Drop)]
+#[derive(Clone, Copy, Drop)]
 pub enum Order {
     Start {
         own: usize,
@@ -52,7 +52,7 @@ pub enum Order {
 }
 
 // What a line comes to: no request, or one.
-#[derive(Drop)]
+#[derive(Clone, Copy, Drop)]
 pub enum Reading {
     Bad,
     Known(Order),

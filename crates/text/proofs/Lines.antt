@@ -1,7 +1,7 @@
 -- A line that is gathered from the input. Assumes nothing.
 use Prim.Native.Nat.{ℕ, suc, ◌+◌, ◌≤◌, ◌<◌}
 use mathlib.Core.Path.{◌≡◌, refl, ap, sym, ◌∙◌}
-use mathlib.Core.Bool.{Bool, true, false}
+use mathlib.Core.Bool.{Bool, true, false, cond}
 use mathlib.Core.List.{List, [], ◌∷◌, ◌++◌, append-nil}
 use native.Mathlib.Nat.{not-suc-le-zero}
 use native.Mathlib.Omega.{arith}
@@ -9,18 +9,13 @@ use lib.Dec.{eqb, ltb}
 use lib.ListN.{length, take, drop, length-drop}
 use lib.Seq.{take_all, drop-length, drop-drop}
 use borrow.Author.Tests.{eqb-true, le-ltb, lt-ltb, ltb-true, ltb-false}
-use Rattle.bytes.specs.Bytes.{index_of, index_after, slice}
 use Rattle.text.specs.Line.{feed_at, before_feed, feed_of, length_with, gathered}
-
-whole : (s : List ℕ) → slice 0 (length s) s ≡ s
-unfolding slice
-whole s = take_all (length s) s (omega arith)
 
 -- ---- what the code finds: the input from the place on, and the place of its line feed
 
-module _ (n from : ℕ) (input left : List ℕ) (size all : ℕ) (l : left ≡ drop from input) (f : size ≡ 0 + index_of 10 (slice 0 (length left) left)) (e : all ≡ length_with n size) where
+module _ (n from : ℕ) (input left : List ℕ) (size all : ℕ) (l : left ≡ drop from input) (f : size ≡ feed_at left) (e : all ≡ length_with n size) where
   feed : size ≡ feed_at (drop from input)
-  feed = let g : size ≡ 0 + index_of 10 left = rw whole at f in omega (arith, rw l at g)
+  feed = rw l at f
 
   pub part_is : take size left ≡ before_feed (drop from input)
   part_is = cc feed
@@ -46,12 +41,11 @@ module _ (n from : ℕ) (input left : List ℕ) (size all : ℕ) (l : left ≡ d
 -- ---- a step loses no byte and takes none twice: what was offered is what the line got, its line feed, and what is left
 
 at-feed : (s : List ℕ) → feed_at s < length s → s ≡ before_feed s ++ (10 ∷ drop (suc (feed_at s)) s)
-unfolding index_of index_after
 at-feed [] h = absurd (not-suc-le-zero h)
 at-feed (x ∷ s) h = go (eqb x 10) refl h (λ k. at-feed s k)
   where
-    go : (t : Bool) → eqb x 10 ≡ t → index_after t (index_of 10 s) < length (x ∷ s) → (feed_at s < length s → s ≡ before_feed s ++ (10 ∷ drop (suc (feed_at s)) s))
-        → x ∷ s ≡ take (index_after t (index_of 10 s)) (x ∷ s) ++ (10 ∷ drop (suc (index_after t (index_of 10 s))) (x ∷ s))
+    go : (t : Bool) → eqb x 10 ≡ t → cond t 0 (suc (feed_at s)) < length (x ∷ s) → (feed_at s < length s → s ≡ before_feed s ++ (10 ∷ drop (suc (feed_at s)) s))
+        → x ∷ s ≡ take (cond t 0 (suc (feed_at s))) (x ∷ s) ++ (10 ∷ drop (suc (cond t 0 (suc (feed_at s)))) (x ∷ s))
     go true e k w = ap (λ (b : ℕ). b ∷ s) (eqb-true x 10 e)
     go false e k w = ap (λ (l : List ℕ). x ∷ l) (w (omega arith))
 

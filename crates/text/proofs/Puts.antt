@@ -9,6 +9,7 @@ use lib.ListN.{length, take, drop, length-append}
 use lib.Seq.{take_all, take-append-le, take-append-add, drop-drop, length-take-le, length-paste, take-paste, drop-paste, paste, paste-zero}
 use borrow.Author.Tests.{leb-true, leb-false}
 use borrow.Rule.Slice.PartMut.{put_mid}
+use Rattle.lists.specs.Bytes.{overwrite}
 use Rattle.lists.proofs.Lent.{copied}
 use Rattle.text.specs.Put.{fitting, place_after, laid}
 
@@ -118,21 +119,21 @@ module _ (out src : List ℕ) (at : ℕ) where
   put_past h = (sym (place_past at src out (omega arith)), sym (laid_past at src out (omega arith)))
 
   pub put_front : (last : List ℕ) → at ≤ length out → length out - at < length src
-      → last ≡ take (length (take (length out - at) src)) (take (length out - at) src) ++ drop (length (take (length out - at) src)) (take (length out - at) (drop at out))
+      → last ≡ overwrite (take (length out - at) src) (take (length out - at) (drop at out))
       → Put out at src (length (put_mid at (length out - at) out last)) (put_mid at (length out - at) out last)
   unfolding place_after
   put_front last h k e =
       let m = length out - at in
       let l : length (take m src) ≡ m = length-take-le m src (omega arith) in
       let x : put_mid at m out last ≡ laid at src out =
-      copied out (take m src) last at h e ∙ rw (l, ← append_assoc) (sym (laid_as at src out m (omega arith))) in
+      copied out (take m src) last at h (rw (take_all (length (take m src)) (take m src) (omega arith)) e) ∙ rw (l, ← append_assoc) (sym (laid_as at src out m (omega arith))) in
       (ap length x ∙ length-laid at src out ∙ omega arith, x)
 
   pub put_whole : (last : List ℕ) → at ≤ length out → length src ≤ length out - at
-      → last ≡ take (length src) src ++ drop (length src) (take (length out - at) (drop at out))
+      → last ≡ overwrite src (take (length out - at) (drop at out))
       → Put out at src (at + length src) (put_mid at (length out - at) out last)
   unfolding place_after
   put_whole last h k e =
       let a : laid at src out ≡ take at out ++ (src ++ drop (at + length src) out) =
       laid_as at src out (length src) (omega arith) ∙ rw (take_all (length src) src (omega arith), append_assoc) in
-      (omega arith, copied out src last at h e ∙ sym a)
+      (omega arith, copied out src last at h (rw (take_all (length src) src (omega arith)) e) ∙ sym a)

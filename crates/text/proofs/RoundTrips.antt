@@ -1,12 +1,12 @@
 -- What is put is read again: numbers, bytes and the words of a line. Assumes nothing.
-use Prim.Native.Nat.{ℕ, zero, suc, ◌+◌, ◌*◌, ◌^◌, ◌/◌, ◌%◌, ◌≤◌, ◌<◌}
+use Prim.Native.Nat.{ℕ, zero, suc, ◌+◌, ◌-◌, ◌*◌, ◌^◌, ◌/◌, ◌%◌, ◌≤◌, ◌<◌}
 use mathlib.Core.Path.{◌≡◌, refl, sym, ap, ap₂, ◌∙◌}
 use mathlib.Core.Bool.{Bool, true, false, cond, not}
 use mathlib.Core.List.{List, [], ◌∷◌, ◌++◌}
 use native.Mathlib.Nat.{pow-suc}
 use native.Mathlib.Omega.{arith}
 use lib.Dec.{eqb, ltb}
-use lib.ListN.{length, get_or, length-append}
+use lib.ListN.{length, get_or}
 use borrow.Author.Tests.{ltb-true, ltb-false, le-leb, lt-leb, lt-ltb, not-true}
 use Rattle.lists.specs.Bytes.{Bytes}
 use Rattle.lists.proofs.Bools.{and_true}
@@ -18,6 +18,7 @@ use Rattle.text.specs.Word.{is_space, spaces, first_word, after_word, word_at}
 use Rattle.text.specs.Number.{is_digit, value_from, number_in, digits_of, decimal}
 use Rattle.text.specs.ByteString.{is_dash, nibble, is_hex_digit, pair_bytes, hex_digit, hex_of, hex_word}
 use Rattle.text.proofs.Words.{no_word}
+use Rattle.text.proofs.Digits.{digits_some}
 use Rattle.text.proofs.Numbers.{number_read}
 use Rattle.text.proofs.PairBytes.{ReadAs, and_not, hex_all, read_dash, read_pairs}
 
@@ -26,7 +27,7 @@ use Rattle.text.proofs.PairBytes.{ReadAs, and_not, hex_all, read_dash, read_pair
 value_append : (m : ℕ) (a b : List ℕ) → value_from m (a ++ b) ≡ value_from (value_from m a) b
 unfolding value_from
 value_append m [] b = refl
-value_append m (x ∷ a) b = value_append _ a b
+value_append m (x ∷ a) b = value_append (m * 10 + (x - 48)) a b
 
 every_append : (p : ℕ → Bool) (a b : List ℕ) → every p a ≡ true → every p b ≡ true → every p (a ++ b) ≡ true
 every_append p [] b e f = f
@@ -57,14 +58,6 @@ digits_only (suc k) n = go (ltb n 10) refl (digits_only k (n / 10))
         every is_digit (cond t ((48 + n) ∷ []) (digits_of k (n / 10) ++ ((48 + n % 10) ∷ []))) ≡ true
     go true t e = is_digit_of n (ltb-true n 10 t)
     go false t e = every_append is_digit (digits_of k (n / 10)) _ e (is_digit_of (n % 10) (omega arith))
-
-digits_some : (k n : ℕ) → 0 < length (digits_of (suc k) n)
-unfolding digits_of
-digits_some k n = go (ltb n 10)
-  where
-    go : (t : Bool) → 0 < length (cond t ((48 + n) ∷ []) (digits_of k (n / 10) ++ ((48 + n % 10) ∷ [])))
-    go true = omega arith
-    go false = omega (arith, length-append (digits_of k (n / 10)) ((48 + n % 10) ∷ []))
 
 pub number_again : (n most : ℕ) → n ≤ most → n < 18446744073709551616 → number_in (decimal n) most ≡ Value n
 unfolding decimal

@@ -1,7 +1,7 @@
 -- The replay format (docs/REPLAY.md), "Lines in": how long a line may be, and which print nothing.
 -- Assumes nothing.
 use Rattle.std.specs.Prelude.{ℕ, ◌+◌, min, List, [], ◌∷◌, Bool, true, false, cond, length, take, drop, eqb, ltb}
-use Rattle.bytes.specs.Bytes.{index_of}
+use Rattle.lists.specs.Lists.{first_index}
 use Rattle.text.specs.declared.line.Gathered.{Gathered}
 
 -- a longer line is bad
@@ -15,7 +15,7 @@ is_silent (b ∷ s) = eqb b 35
 
 -- how many bytes stand before the first line feed; all of them where there is none
 abbrev pub feed_at : List ℕ → ℕ
-feed_at s = index_of 10 s
+feed_at s = first_index (λ b. eqb b 10) s
 
 -- the bytes before the first line feed
 abbrev pub before_feed : List ℕ → List ℕ

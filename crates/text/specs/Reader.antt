@@ -1,6 +1,6 @@
 -- The replay format (docs/REPLAY.md), "Lines in": the input is read part by part, and a line is complete as soon as its line feed was read.
 -- Assumes nothing.
-use Rattle.std.specs.Prelude.{ℕ, ◌-◌, List, Bool, true, false, cond, length, take, drop, eqb, leb}
+use Rattle.std.specs.Prelude.{◌≡◌, ℕ, ◌-◌, ◌≤◌, List, Bool, true, false, cond, length, take, drop, eqb, leb}
 use Rattle.text.specs.declared.line.Gathered.{Gathered}
 use Rattle.text.specs.declared.reader.Reader.{Reader}
 use Rattle.text.specs.Line.{gathered}
@@ -27,6 +27,10 @@ ended r = record { next = 0; end = 0; len = length_before r; complete = true; le
 -- whether nothing is left of what was read
 abbrev pub is_used_up : Reader → Bool
 is_used_up r = leb r.end r.next
+
+-- n bytes of the input can be taken from its start
+abbrev pub IsPrefixLen : ℕ → List ℕ → Type 0
+IsPrefixLen n input = (n ≤ length input) × (n ≡ length (take n input))
 
 -- The bytes in which the line goes on: what is left of those that were read; or else the n bytes that one more read brought to the input's start.
 unfoldable pub offered : Reader → ℕ → List ℕ → List ℕ

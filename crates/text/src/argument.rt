@@ -11,7 +11,7 @@ use crate::output::MOST_OUTPUT;
 use crate::word::{is_word, word_at};
 
 // One of two words, for true and for false.
-#[derive(Drop)]
+#[derive(Clone, Copy, Drop)]
 pub enum Switch {
     Value(bool),
     Bad,
@@ -43,6 +43,7 @@ pub fn port_at(line: &[u8], place: usize) -> Number16
     read_number16(word_at(line, place))
 }
 
+#[tactic(auto, unfolding(crate::specs::Argument::switch_in))]
 fn read_switch(word: &[u8], on: &[u8], off: &[u8]) -> Switch
     ensures { result ≡ switch_in on.now off.now word.now }
 {

@@ -7,7 +7,7 @@ ghost use Rattle.text.specs.ByteString.{nibble, is_hex_digit, pair_bytes, bytes_
 use crate::word::is_word;
 
 // How many bytes were read, or that the word is no byte string, or one too long for the buffer.
-#[derive(Drop)]
+#[derive(Clone, Copy, Drop)]
 pub enum ByteString {
     Count(usize),
     Bad,
@@ -37,6 +37,7 @@ pub fn read_bytes(word: &[u8], out: &mut [u8]) -> ByteString
 }
 
 // What a hexadecimal digit counts; 16 for any other byte.
+#[tactic(auto, unfolding(crate::specs::ByteString::nibble))]
 fn nibble(b: u8) -> u8
     ensures { result ≡ nibble b }
 {

@@ -2,12 +2,15 @@
 //
 // No public function has a precondition: a word that is no number or no byte string is `Bad`, and a buffer takes as many bytes as fit.
 #![tactic(auto)]
+
 pub mod argument;
 pub mod bytestring;
+pub mod decimal;
 pub mod line;
 pub mod number;
 pub mod output;
 pub mod part;
 pub mod put;
 pub mod reader;
+pub mod scan;
 pub mod word;

@@ -5,6 +5,7 @@ ghost use Rattle.text.specs.Put.{laid};
 
 use crate::part::{first, rest};
 use crate::put::put;
+use crate::scan::find;
 
 // The longest line that is read, its line feed not counted.
 pub const LONGEST: usize = 8192;
@@ -13,7 +14,7 @@ pub const LONGEST: usize = 8192;
 pub const MOST_BYTES: usize = LONGEST / 2;
 
 // What is said to a line: nothing, that it is bad, or the number that its call returned, 0 where it is done.
-#[derive(Drop)]
+#[derive(Clone, Copy, Drop)]
 pub enum Reply {
     Silent,
     Bad,
@@ -34,6 +35,7 @@ fn length_with(len: usize, more: usize) -> usize
 }
 
 // Whether a line prints nothing: it is empty or a comment.
+#[tactic(auto, unfolding(crate::specs::Line::is_silent))]
 pub fn is_silent(line: &[u8]) -> bool
     ensures { result ≡ is_silent line.now }
 {
@@ -44,7 +46,7 @@ pub fn is_silent(line: &[u8]) -> bool
 }
 
 // What a step through the input comes to: where it goes on, how long the line is, and whether the line is complete.
-#[derive(Drop)]
+#[derive(Clone, Copy, Drop)]
 pub struct Gathered {
     pub next: usize,
     pub len: usize,
@@ -58,7 +60,7 @@ pub fn gather(line: &mut [u8], len: usize, input: &[u8], from: usize) -> Gathere
 {
     let left = rest(input, from);
     let n = left.len();
-    let size = bytes::scan::find(left, 0, n, b'\n');
+    let size = find(left, b'\n');
     put(line, len, first(left, size));
     let all = length_with(len, size);
     if n <= size {

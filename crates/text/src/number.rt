@@ -3,20 +3,20 @@ ghost use Rattle.std.specs.Prelude.{◌≡◌};
 ghost use Rattle.text.specs.Number.{digit, number_in, number16_in, number32_in};
 
 // A number that was read, or that the word is none, or one too large.
-#[derive(Drop)]
+#[derive(Clone, Copy, Drop)]
 pub enum Number {
     Value(u64),
     Bad,
 }
 
 // The same of numbers of 16 and of 32 bits.
-#[derive(Drop)]
+#[derive(Clone, Copy, Drop)]
 pub enum Number16 {
     Value(u16),
     Bad,
 }
 
-#[derive(Drop)]
+#[derive(Clone, Copy, Drop)]
 pub enum Number32 {
     Value(u32),
     Bad,
@@ -49,6 +49,7 @@ pub fn read_number(word: &[u8], most: u64) -> Number
 }
 
 // The number that a word is, if it fits 16 bits.
+#[tactic(auto, unfolding(crate::specs::Number::number16_in))]
 pub fn read_number16(word: &[u8]) -> Number16
     ensures { result ≡ number16_in word.now }
 {
@@ -59,6 +60,7 @@ pub fn read_number16(word: &[u8]) -> Number16
 }
 
 // The number that a word is, if it fits 32 bits.
+#[tactic(auto, unfolding(crate::specs::Number::number32_in))]
 pub fn read_number32(word: &[u8]) -> Number32
     ensures { result ≡ number32_in word.now }
 {
@@ -69,6 +71,7 @@ pub fn read_number32(word: &[u8]) -> Number32
 }
 
 // What a decimal digit counts; 10 for any other byte.
+#[tactic(auto, unfolding(crate::specs::Number::digit))]
 fn digit(b: u8) -> u64
     ensures { result ≡ digit b }
 {

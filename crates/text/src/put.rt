@@ -5,6 +5,7 @@ ghost use Rattle.text.specs.Put.{place_after, laid, field, last_field, fields, r
 ghost use Rattle.text.specs.Number.{decimal};
 ghost use Rattle.text.specs.ByteString.{hex_digit, hex_of, hex_word};
 
+use crate::decimal::decimal;
 use lists::copy::copy;
 
 // Puts bytes.
@@ -30,7 +31,7 @@ pub fn put_number(out: &mut [u8], at: usize, n: u64) -> usize
     ensures out_after { out.new ≡ laid at (decimal n) out.old }
 {
     let mut digits = [0u8; 20];
-    let k = io::decimal(n, &mut digits);
+    let k = decimal(n, &mut digits);
     put(out, at, &digits[..k])
 }
 

@@ -1,18 +1,18 @@
 // A file, line by line, as it comes: a line is complete as soon as its line feed was read, and more is read only where all that was read is used up.
 ghost use Rattle.std.specs.Prelude.{◌≡◌, ◌-◌, ◌≤◌, false, drop};
-ghost use Rattle.io.specs.Counts.{IsPrefixLen};
 ghost use Rattle.text.specs.Line.{before_feed};
 ghost use Rattle.text.specs.Put.{laid};
-ghost use Rattle.text.specs.Reader.{fresh, length_before, part_taken, is_used_up, offered, next_taken};
+ghost use Rattle.text.specs.Reader.{fresh, length_before, part_taken, is_used_up, IsPrefixLen, offered, next_taken};
 
 use crate::line::gather;
 use crate::part::first;
+use std::io::Read;
 
 // How many bytes one read may bring.
 pub const INPUT: usize = 65536;
 
 // Where the next part of the input begins and where what was read ends; how long the line is and whether it is complete; how many parts may still be taken.
-#[derive(Drop)]
+#[derive(Clone, Copy, Drop)]
 pub struct Reader {
     pub next: usize,
     pub end: usize,
@@ -35,6 +35,7 @@ pub fn new_reader() -> Reader
 }
 
 // How long the line is that goes on: after a complete one a new one begins.
+#[tactic(auto, unfolding(crate::specs::Reader::length_before))]
 fn length_before(r: Reader) -> usize
     ensures { result ≡ length_before r }
 {
@@ -75,14 +76,16 @@ fn is_used_up(r: Reader) -> bool
     r.end <= r.next
 }
 
-// Reads from a file to the input's start where nothing is left, and returns how many bytes came. A read that fails counts as the end of the input.
-pub fn read_if_used_up(fd: i32, r: Reader, input: &mut [u8]) -> usize
+// Reads to the input's start where nothing is left, and returns how many bytes came. A read that fails counts as the end of the input.
+pub fn read_if_used_up<R: Read>(source: &mut R, r: Reader, input: &mut [u8]) -> usize
     ensures prefix_len { IsPrefixLen result input.new }
     ensures input_unchanged { is_used_up r ≡ false → input.new ≡ input.old }
 {
     if is_used_up(r) {
-        let got = libc::read(fd, input);
-        return io::count(got, input);
+        return match source.read(input) {
+            Ok(n) => n,
+            Err(_) => 0,
+        };
     }
     0
 }

@@ -1,0 +1,11 @@
+use Rattle.player.proofs.Playing.{ordered}
+use Rattle.player.proofs.play.play_request.Goals as goal
+
+pub returns-in-Known : goal.returns-in-Known
+returns-in-Known c =
+    let s = c.args in
+    let r = c.read_request in
+    let e = rw c.out_len.ensures at c.first_mut.ensures in
+    let p = c.play_order.ensures in
+    let q = ordered s.l s.line.now r.new.a r.new.b s.text.now c.in-Known.is r.ensures e p.value p.text_after in
+    record { value = q.0; text_after = q.1 }
