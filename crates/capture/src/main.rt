@@ -1,6 +1,7 @@
 // Feeds a capture to a listener and prints a line for each record: `capture SETUP CAPTURE [OUT]`. SETUP has lines for `replay`, which are played first;
 // CAPTURE is a capture of raw IP packets, or `-` for standard input; OUT gets the packets that were fed and the answers to them.
 #![tactic(auto)]
+
 mod line;
 mod setup;
 mod window;

@@ -28,7 +28,13 @@ fn print_line(streams: Streams, l: Listener, line: &[u8], len: usize) -> Listene
 }
 
 // Takes the next part of the set-up, and plays the line where that completes one.
-fn play_part<R: Read>(streams: Streams, source: &mut R, s: Session, input: &mut [u8; INPUT], line: &mut [u8; LONGEST]) -> Session
+fn play_part<R: Read>(
+    streams: Streams,
+    source: &mut R,
+    s: Session,
+    input: &mut [u8; INPUT],
+    line: &mut [u8; LONGEST],
+) -> Session
     ensures { result.reader.left ≤ s.reader.left - 1 }
 {
     let r = s.reader;

@@ -43,7 +43,7 @@ const LENT: usize = 64;
 const BEHIND: u64 = 1048576;
 
 // Where the walk stands in a window.
-#[derive(Drop)]
+#[derive(Clone, Copy, Drop)]
 enum State {
     // it goes on
     Going,
@@ -59,7 +59,7 @@ enum State {
 
 // The window's bytes that are left, from `at` to `end`; the number that the walk ended with; how many records were fed and skipped; how many bytes of lines
 // and of packets are gathered; how far the progress was when it was told.
-#[derive(Drop)]
+#[derive(Clone, Copy, Drop)]
 struct Tally {
     at: usize,
     end: usize,
@@ -71,7 +71,7 @@ struct Tally {
     told: u64,
 }
 
-#[derive(Drop)]
+#[derive(Clone, Copy, Drop)]
 struct Walk {
     listener: Listener,
     walker: Walker,
@@ -184,11 +184,11 @@ fn feed_record(
             tally: t,
         };
     }
+    let listener = o.listener;
+    let written = o.written;
     t.fed = wrapping_add_u64(t.fed, 1);
     t.lines = put_fed(lines, start, o, packet, &lent);
-    let listener = o.listener;
     if has_out {
-        let written = o.written;
         t.packets = put_packets(
             packets,
             t.packets,

@@ -17,7 +17,7 @@ use text::part::{first, first_mut};
 use text::put::put_bad_line;
 
 // The memory next, the reply, and how many bytes of text were put.
-#[derive(Drop)]
+#[derive(Clone, Copy, Drop)]
 pub struct Played {
     pub memory: Memory,
     pub reply: Reply,

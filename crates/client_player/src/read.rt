@@ -12,7 +12,7 @@ use text::number::{Number, Number16, Number32};
 use text::word::is_call;
 
 // What an opening and an answer begin with: the time, the lengths of the two addresses, both ports and our initial number.
-#[derive(Drop)]
+#[derive(Clone, Copy, Drop)]
 pub(crate) struct Ends {
     pub(crate) time: u64,
     pub(crate) own: usize,
@@ -22,7 +22,7 @@ pub(crate) struct Ends {
     pub(crate) iss: u32,
 }
 
-#[derive(Drop)]
+#[derive(Clone, Copy, Drop)]
 enum ReadEnds {
     Known(Ends),
     Bad,
@@ -30,7 +30,7 @@ enum ReadEnds {
 
 // A request. A byte string is given by its length: own address, or the server's where there is no other, is in the first buffer, the server's in the second,
 // data or a segment in the third.
-#[derive(Drop)]
+#[derive(Clone, Copy, Drop)]
 pub(crate) enum Order {
     Start {
         size: usize,
@@ -54,7 +54,7 @@ pub(crate) enum Order {
     },
 }
 
-#[derive(Drop)]
+#[derive(Clone, Copy, Drop)]
 pub(crate) enum Reading {
     Bad,
     Known(Order),

@@ -1,15 +1,16 @@
 // Plays a script of the calls on a client's memory from standard input and prints a line for each: what the call came to. A line is answered as soon as it is
 // complete, so that the program can be driven through a pipe.
 #![tactic(auto)]
+
 ghost use Rattle.std.specs.Prelude.{◌-◌, ◌≤◌};
 
 use client::calls::never_started;
 use client::state::Memory;
 use client_player::play::play_line;
 use console::streams::{Streams, new_streams};
+use std::io::Stdin;
 use text::line::LONGEST;
 use text::part::first;
-use std::io::Stdin;
 use text::reader::{INPUT, Reader, new_reader, read_if_used_up, take_next};
 
 // The buffer for an outcome's line: its longest word is an opening of 1,480 bytes, at two digits each.
@@ -31,7 +32,13 @@ fn print_line(streams: Streams, m: Memory, line: &[u8], len: usize) -> Memory {
 }
 
 // Takes the next part of the input, and plays the line where that completes one.
-fn play_part(streams: Streams, source: &mut Stdin, s: Session, input: &mut [u8; INPUT], line: &mut [u8; LONGEST]) -> Session
+fn play_part(
+    streams: Streams,
+    source: &mut Stdin,
+    s: Session,
+    input: &mut [u8; INPUT],
+    line: &mut [u8; LONGEST],
+) -> Session
     ensures { result.reader.left ≤ s.reader.left - 1 }
 {
     let r = s.reader;

@@ -58,7 +58,13 @@ fn put_entries(out: &mut [u8], list: &[u64], from: usize, to: usize) -> usize {
 }
 
 // Prints the entries that were listed since the last time; `lines` has room for all that may be.
-pub(crate) fn print_entries(streams: Streams, lines: &mut [u8], list: &[u64], from: usize, to: usize) -> bool {
+pub(crate) fn print_entries(
+    streams: Streams,
+    lines: &mut [u8],
+    list: &[u64],
+    from: usize,
+    to: usize,
+) -> bool {
     let n = put_entries(lines, list, from, to);
     streams.print(first(lines, n))
 }

@@ -1,6 +1,7 @@
 // Compares what two sites answer: `compare SETUP CAPTURE CAPTURE [ENTRIES]`. Each capture is fed to a listener of its own, which SETUP's start and settings
 // make, and the pairs of fed records that are answered differently are listed, at most ENTRIES of them. One capture may be `-`, standard input.
 #![tactic(auto)]
+
 mod line;
 mod setup;
 mod sides;

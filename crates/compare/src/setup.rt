@@ -13,7 +13,7 @@ use text::put::put;
 use text::reader::{INPUT, Reader, new_reader, read_if_used_up, take_next};
 
 // The start's address and key are given by their lengths: their bytes are at the start of two buffers.
-#[derive(Drop)]
+#[derive(Clone, Copy, Drop)]
 pub(crate) struct Start {
     pub(crate) own: usize,
     pub(crate) port: u16,
@@ -21,7 +21,7 @@ pub(crate) struct Start {
 }
 
 // Why a line cannot be used; the last two are settings at another time than 0, and a line behind the settings.
-#[derive(Drop)]
+#[derive(Clone, Copy, Drop)]
 enum Fault {
     TooLong,
     BadLine,
@@ -32,7 +32,7 @@ enum Fault {
 }
 
 // What was read so far.
-#[derive(Drop)]
+#[derive(Clone, Copy, Drop)]
 enum Stage {
     Begun,
     Started(Start),
@@ -48,7 +48,7 @@ pub(crate) enum SetUp {
 }
 
 // How far the file was read, what came of it, and how many lines there were.
-#[derive(Drop)]
+#[derive(Clone, Copy, Drop)]
 struct Session {
     reader: Reader,
     stage: Stage,

@@ -26,7 +26,7 @@ const INPUT: usize = 65536;
 const WINDOW: usize = RECORD_HEADER + MOST_CAPTURED + INPUT;
 
 // The bytes of a side's window that are left, from `at` to `end`; whether no byte is to come behind them; whether a read failed, which was told.
-#[derive(Drop)]
+#[derive(Clone, Copy, Drop)]
 struct Side {
     at: usize,
     end: usize,
@@ -35,7 +35,7 @@ struct Side {
 }
 
 // Both sides, how many entries were written, and whether the walk goes on.
-#[derive(Drop)]
+#[derive(Clone, Copy, Drop)]
 struct Walk {
     comparison: Comparison,
     first: Side,
@@ -192,8 +192,14 @@ fn go_on(
     let turn = a.turn;
     match turn {
         Turn::Went => s,
-        Turn::NeedsFirst => with_first(s, read_on(&mut files.first, streams, name1, window1, side1, input)),
-        Turn::NeedsSecond => with_second(s, read_on(&mut files.second, streams, name2, window2, side2, input)),
+        Turn::NeedsFirst => with_first(
+            s,
+            read_on(&mut files.first, streams, name1, window1, side1, input),
+        ),
+        Turn::NeedsSecond => with_second(
+            s,
+            read_on(&mut files.second, streams, name2, window2, side2, input),
+        ),
         Turn::Over(ends) => {
             let c = s.comparison;
             print_finding(streams, finding_of(c, ends));

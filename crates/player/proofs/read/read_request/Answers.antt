@@ -1,4 +1,4 @@
-use Rattle.std.proofs.Common.{true, false, sym, ◌∙◌}
+use Rattle.std.proofs.Common.{false, sym, ◌∙◌}
 use mathlib.Core.Option.{some}
 use Rattle.protocol.specs.Call.{fresh_share}
 use Rattle.text.specs.Argument.{number_at, both_at}

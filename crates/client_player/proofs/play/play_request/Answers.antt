@@ -1,0 +1,11 @@
+use Rattle.client_player.proofs.Playing.{ordered}
+use Rattle.client_player.proofs.play.play_request.Goals as goal
+
+pub returns-in-Known : goal.returns-in-Known
+returns-in-Known c =
+    let s = c.args in
+    let r = c.read_request in
+    let e = rw c.out_len.ensures at c.first_mut.ensures in
+    let p = c.play_order.ensures in
+    let q = ordered s.m _ r.new.a r.new.b r.new.d s.line.now s.text.now c.in-Known.is r.ensures e p.value p.text_after in
+    record { value = q.0; text_after = q.1 }

@@ -1,0 +1,4 @@
+use Rattle.compare.proofs.setup.read_setup.Given as goal
+
+abbrev pub decreases-loop-s : goal.decreases-loop-s
+decreases-loop-s g l = l.s.reader.left
