@@ -1,3 +1,4 @@
+-- Five puts are one.
 use Rattle.std.proofs.Common.{◌≡◌, List, ℕ, [], ◌∷◌, ◌++◌, append_assoc, length}
 use Rattle.client.specs.Call.{number_of_event, count_of}
 use Rattle.text.specs.Number.{decimal}

@@ -1,3 +1,4 @@
+-- What was written, and whether the rest is kept.
 use Rattle.std.proofs.Common.{◌≡◌, List, ℕ, Bool, take}
 use Rattle.client.specs.declared.outcome.Outcome.{Outcome}
 use Rattle.text.specs.Output.{is_kept}

@@ -1,3 +1,4 @@
+-- Silent, too long, or a request.
 use Rattle.std.proofs.Common.{sym, ◌∙◌}
 use borrow.Author.Tests.{lt-ltb, le-ltb}
 use Rattle.text.proofs.Puts.{put-none}

@@ -1,3 +1,4 @@
+-- The tests say which line it is, and what was read is the request that it is.
 use Rattle.std.proofs.Common.{false, sym, ◌∙◌}
 use mathlib.Core.Option.{some}
 use Rattle.text.specs.Argument.{both_at}

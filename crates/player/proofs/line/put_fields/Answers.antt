@@ -1,3 +1,4 @@
+-- Eight puts are one.
 use Rattle.std.proofs.Common.{◌≡◌, List, ℕ, [], ◌∷◌, ◌++◌, append_assoc, length}
 use Rattle.protocol.specs.Call.{number_of_event, accepted_of, kind_of_event, verdict_of}
 use Rattle.text.specs.Number.{decimal}

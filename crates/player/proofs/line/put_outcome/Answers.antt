@@ -1,3 +1,4 @@
+-- What is pending, what was written, and whether the rest is kept.
 use Rattle.std.proofs.Common.{◌≡◌, List, ℕ, Bool, take}
 use Rattle.protocol.specs.declared.outcome.Outcome.{Outcome}
 use Rattle.protocol.specs.Step.{pending_number}

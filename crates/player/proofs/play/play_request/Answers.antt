@@ -1,3 +1,4 @@
+-- A request that was read is played with the first bytes of the filled output.
 use Rattle.player.proofs.Playing.{ordered}
 use Rattle.player.proofs.play.play_request.Goals as goal
 

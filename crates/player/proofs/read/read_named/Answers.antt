@@ -1,3 +1,4 @@
+-- The tests say which line it is, and what was read is the request that it is.
 use Rattle.std.proofs.Common.{true, false, sym, ◌∙◌}
 use Rattle.player.proofs.Reading.{key_read, release_read, resend_read}
 use Rattle.player.proofs.read.read_named.Goals as goal

@@ -1,3 +1,4 @@
+-- One more byte, by its two digits.
 use Rattle.std.proofs.Common.{ℕ, ◌≡◌, ◌+◌, ◌*◌, ◌<◌, List, length, set, get_or, arith, refl, sym, ◌∙◌}
 use mathlib.Core.Path.{ap₂}
 use lib.ListN.{length-set}

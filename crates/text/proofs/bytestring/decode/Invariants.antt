@@ -1,3 +1,4 @@
+-- The first bytes are put, the others are as they were.
 use Rattle.std.proofs.Common.{◌-◌, ◌≡◌, ◌≤◌, ◌++◌, length, take, drop}
 use Rattle.text.specs.ByteString.{pair_bytes}
 use Rattle.text.proofs.bytestring.decode.Given as goal

@@ -1,3 +1,4 @@
+-- What stands before the place are digits.
 use Rattle.std.proofs.Common.{◌-◌, ◌≤◌, length}
 use Rattle.text.specs.ByteString.{is_hex_digit}
 use Rattle.lists.proofs.Places.{Passed}

@@ -1,3 +1,4 @@
+-- By what the word is: `-`, no byte string, one too long, or one that fits.
 use Rattle.std.proofs.Common.{◌≤◌, ◌<◌, length, arith, sym, ap, ◌∙◌}
 use Rattle.text.specs.declared.bytestring.ByteString.TheVariants.{Count}
 use Rattle.text.specs.ByteString.{pair_bytes}

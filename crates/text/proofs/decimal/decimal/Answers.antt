@@ -1,3 +1,4 @@
+-- One more digit, and the copy to the start.
 use Rattle.std.proofs.Common.{◌-◌, ◌+◌, ◌%◌, length, arith, refl, ap}
 use Rattle.text.proofs.Digits.{split_room, split_on, split-end, decimal-most_digits, put_digits}
 use Rattle.text.proofs.decimal.decimal.Goals as goal

@@ -1,3 +1,4 @@
+-- The last digits are put, those of `left` are to come.
 use Rattle.text.proofs.Digits.{Split}
 use Rattle.text.proofs.decimal.decimal.Given as goal
 

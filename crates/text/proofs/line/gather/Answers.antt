@@ -1,3 +1,4 @@
+-- Up to the end of the input, or up to a line feed.
 use Rattle.text.proofs.Lines.{cut_off, ended}
 use Rattle.text.proofs.line.gather.Goals as goal
 

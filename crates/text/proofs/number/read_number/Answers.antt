@@ -1,3 +1,4 @@
+-- No digit, a number too large, or one more digit.
 use Rattle.std.proofs.Common.{ℕ, ◌≡◌, ◌+◌, ◌-◌, ◌*◌, ◌<◌, ◌≤◌, length, drop, get_or, arith, sym, ap, ◌∙◌}
 use Rattle.text.specs.declared.number.Number.TheVariants.{Value}
 use Rattle.text.specs.Number.{is_digit, digit, value_from}

@@ -1,3 +1,4 @@
+-- What stands before the place are digits, and the number goes on from what they say.
 use Rattle.std.proofs.Common.{◌-◌, ◌≡◌, ◌<◌, ◌≤◌, length, drop}
 use Rattle.text.specs.Number.{is_digit, value_from}
 use Rattle.lists.proofs.Places.{Passed}

@@ -1,3 +1,4 @@
+-- A number that was read is at most the most that it may be.
 use Rattle.std.proofs.Common.{arith, sym, ◌∙◌}
 use Rattle.text.proofs.Values.{value_most}
 use Rattle.text.proofs.number.read_number16.Goals as goal

@@ -1,3 +1,4 @@
+-- What stands before the place has the byte.
 use Rattle.std.proofs.Common.{◌-◌, ◌≤◌, length, eqb}
 use Rattle.lists.proofs.Places.{Passed}
 use Rattle.text.proofs.output.is_filled.Given as goal

@@ -1,3 +1,4 @@
+-- Past the end, as much as fits, or all.
 use Rattle.std.proofs.Common.{arith, length-take, length-drop}
 use Rattle.text.proofs.Puts.{put_past, put_front, put_whole}
 use Rattle.text.proofs.put.put.Goals as goal

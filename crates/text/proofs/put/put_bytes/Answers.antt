@@ -1,3 +1,4 @@
+-- `-`, or digits.
 use Rattle.std.proofs.Common.{arith}
 use Rattle.text.proofs.Digits.{word_none, word_some}
 use Rattle.text.proofs.put.put_bytes.Goals as goal

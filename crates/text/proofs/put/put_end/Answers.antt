@@ -1,3 +1,4 @@
+-- Four puts are one.
 use Rattle.std.proofs.Common.{◌≡◌, ℕ, List, [], ◌∷◌, ◌++◌, append_assoc}
 use Rattle.text.proofs.Puts.{put_then, same-put}
 use Rattle.text.specs.Number.{decimal}

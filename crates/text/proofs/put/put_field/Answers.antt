@@ -1,3 +1,4 @@
+-- Two puts are one.
 use mathlib.Core.List.{[], ◌∷◌}
 use Rattle.text.proofs.Puts.{put_then}
 use Rattle.text.proofs.put.put_field.Goals as goal

@@ -1,3 +1,4 @@
+-- Two more digits.
 use Rattle.std.proofs.Common.{◌≡◌, ◌+◌, List, ℕ, take, ◌++◌, arith, sym, ap, add-one}
 use Rattle.std.proofs.Math.Seq.{take-suc}
 use Rattle.text.specs.ByteString.{hex_of}

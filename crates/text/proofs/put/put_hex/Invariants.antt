@@ -1,3 +1,4 @@
+-- The digits of the bytes before the place are put.
 use Rattle.std.proofs.Common.{◌-◌, ◌≤◌, length, take}
 use Rattle.text.specs.ByteString.{hex_of}
 use Rattle.text.proofs.Puts.{Put}

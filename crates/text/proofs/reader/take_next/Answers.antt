@@ -1,3 +1,4 @@
+-- Of what is left, of nothing, or of what was read.
 use Rattle.std.proofs.Common.{refl, sym, ◌∙◌}
 use Rattle.text.proofs.Reading.{from_left, at-end, from_read}
 use Rattle.text.proofs.reader.take_next.Goals as goal

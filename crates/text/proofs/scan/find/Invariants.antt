@@ -1,3 +1,4 @@
+-- The byte does not stand before the place.
 use Rattle.std.proofs.Common.{◌-◌, ◌≤◌, length, eqb}
 use Rattle.lists.proofs.FirstIndex.{Searched}
 use Rattle.text.proofs.scan.find.Given as goal

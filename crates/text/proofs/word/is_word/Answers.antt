@@ -1,3 +1,4 @@
+-- The words differ in length, at a place, or nowhere.
 use Rattle.std.proofs.Common.{◌<◌, length, true, false, arith, refl, sym}
 use Rattle.lists.specs.Bytes.{same_bytes}
 use Rattle.lists.proofs.SameBytes.{unlike}

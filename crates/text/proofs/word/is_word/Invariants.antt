@@ -1,3 +1,4 @@
+-- The words have one length, and are the same before the place.
 use Rattle.std.proofs.Common.{◌-◌, ◌≡◌, ◌≤◌, length, drop}
 use Rattle.lists.specs.Bytes.{same_bytes}
 use Rattle.text.proofs.word.is_word.Given as goal

@@ -1,3 +1,4 @@
+-- A space is found in the line.
 use Rattle.std.proofs.Common.{length, arith, ap}
 use lib.ListN.{length-drop}
 use Rattle.text.proofs.word.next_space.Goals as goal

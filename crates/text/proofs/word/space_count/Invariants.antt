@@ -1,3 +1,4 @@
+-- So many spaces stand before the place.
 use Rattle.std.proofs.Common.{◌-◌, ◌≤◌, length}
 use Rattle.text.specs.Word.{is_space}
 use Rattle.lists.proofs.Places.{Counted}

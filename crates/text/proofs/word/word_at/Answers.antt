@@ -1,3 +1,4 @@
+-- One word further, or past the last.
 use Rattle.std.proofs.Common.{ℕ, suc, ◌≡◌, ◌+◌, ◌-◌, drop, arith, refl, sym, ap, ◌∙◌}
 use Rattle.text.specs.Word.{word_at}
 use Rattle.text.proofs.Words.{word-here, word-later, word_none}

@@ -1,3 +1,4 @@
+-- The word is at place `place - k` of what is left of the line.
 use Rattle.std.proofs.Common.{◌-◌, ◌≡◌, ◌≤◌, length, drop}
 use Rattle.text.specs.Word.{word_at}
 use Rattle.text.proofs.word.word_at.Given as goal
