@@ -1,5 +1,5 @@
 -- A comparison is complete, lists the first differences, and does not depend on the order of the captures. Assumes nothing.
-use Rattle.std.proofs.Common.{◌≡◌, ℕ, zero, suc, ◌+◌, ◌-◌, ◌*◌, Bool, true, false, cond, ◌&&◌, eqb, List, [], ◌∷◌, length, take, drop, sym, refl, ap, ◌∙◌, subst, ap₂, arith, length-append, take-append-drop, take_at, drop_at, eq-eqb, eqb-true}
+use Rattle.std.proofs.Common.{◌≡◌, ℕ, zero, suc, ◌+◌, ◌*◌, Bool, true, false, cond, ◌&&◌, eqb, List, [], ◌∷◌, length, take, drop, sym, refl, ap, ◌∙◌, subst, ap₂, arith, length-append, take-append-drop, take_at, drop_at, eq-eqb, eqb-true}
 use mathlib.Core.Bool.{false≢true}
 use lib.Seq.{take-nil, drop-nil}
 use Rattle.lists.specs.Bytes.{same_bytes, overwrite}

@@ -1,5 +1,5 @@
 -- What a comparison will come to, from a state and the accounts to come, and that a turn does not change it. Assumes nothing.
-use Rattle.std.proofs.Common.{◌≡◌, ℕ, ◌+◌, ◌-◌, ◌<◌, Bool, true, List, [], ◌++◌, length, drop, sym, refl, ap, ◌∙◌, ap₂, arith, length-drop, drop-drop}
+use Rattle.std.proofs.Common.{◌≡◌, ℕ, ◌+◌, ◌<◌, Bool, true, List, [], ◌++◌, length, drop, sym, refl, ap, ◌∙◌, ap₂, arith, length-drop, drop-drop}
 use Rattle.segment.specs.declared.refusal.Check.{Check}
 use Rattle.pcap.specs.Records.{packet_of}
 use Rattle.pcap.specs.Walker.{taken_of, size_taken, walker_after, Counts}
@@ -16,7 +16,7 @@ use Rattle.comparison.specs.declared.site.Stand.TheVariants as stand
 use Rattle.comparison.specs.declared.site.Look.{Look}
 use Rattle.comparison.specs.declared.lockstep.Comparison.{Comparison}
 use Rattle.comparison.specs.declared.lockstep.Turn.{Turn}
-use Rattle.comparison.specs.declared.lockstep.Turn.TheVariants.{Went, Over}
+use Rattle.comparison.specs.declared.lockstep.Turn.TheVariants.{Went}
 use Rattle.comparison.specs.declared.lockstep.Advance.{Advance}
 use Rattle.comparison.proofs.Rest.{Moves, Ahead, ahead}
 

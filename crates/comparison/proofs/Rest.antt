@@ -1,5 +1,5 @@
 -- What is left for a site: the account of the bytes to come, and how it moves with what stands at the place. Assumes nothing.
-use Rattle.std.proofs.Common.{◌≡◌, ℕ, ◌+◌, ◌-◌, ◌^◌, ◌<◌, ◌≤◌, Bool, true, false, List, [], ◌∷◌, ◌++◌, length, drop, sym, refl, ap, ◌∙◌, ap₂, append-nil, arith, length-append, length-drop}
+use Rattle.std.proofs.Common.{◌≡◌, ℕ, ◌+◌, ◌^◌, ◌<◌, ◌≤◌, Bool, true, false, List, [], ◌∷◌, ◌++◌, length, drop, sym, refl, ap, ◌∙◌, ap₂, append-nil, arith, length-append, length-drop}
 use mathlib.Core.Option.{Option, none, some}
 use lib.Seq.{drop-append-le}
 use Rattle.segment.specs.declared.refusal.Check.{Check}
@@ -11,7 +11,7 @@ use Rattle.protocol.specs.Demand3.{segment_of}
 use Rattle.protocol.specs.declared.state.LocalEndpoint.{LocalEndpoint}
 use Rattle.protocol.specs.declared.state.Listener.{Listener}
 use Rattle.protocol.proofs.Local.{step_local}
-use Rattle.pcap.specs.Records.{Recorded, packet_of, recorded_as, capture}
+use Rattle.pcap.specs.Records.{Recorded, packet_of, recorded_as}
 use Rattle.pcap.specs.Walker.{taken_of, size_taken, walker_after, Counts, finish_of, Drained, stopped, drained_by, drain}
 use Rattle.pcap.specs.declared.record.RecordHead.{RecordHead}
 use Rattle.pcap.specs.declared.walker.Walker.{Walker}
