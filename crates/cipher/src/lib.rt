@@ -280,7 +280,7 @@ pub fn is_half(given: &[u8], half: [u8; 8]) -> bool
 // A block under two key schedules
 
 // Its two encryptions. Where the first settles it, the second is not made, and `second` is the first again.
-#[derive(Drop)]
+#[derive(Clone, Copy, Drop)]
 pub struct Encrypted {
     pub first: [u8; 16],
     pub second: [u8; 16],

@@ -8,7 +8,7 @@ use segment::options::Remarks;
 use segment::refusal::{Check, Refusal, number};
 
 // An opening to be made, RFC 9293's active OPEN: own port, the server's port, our initial number, and own MSS.
-#[derive(Drop)]
+#[derive(Clone, Copy, Drop)]
 pub struct ActiveOpen {
     pub source: u16,
     pub dest: u16,
@@ -35,7 +35,7 @@ pub enum Event {
 }
 
 // A call's result: the memory next, what happened, how many bytes were written to the output, and what was remarked on an answer's options.
-#[derive(Drop)]
+#[derive(Clone, Copy, Drop)]
 pub struct Outcome {
     pub memory: Memory,
     pub event: Event,
@@ -44,7 +44,7 @@ pub struct Outcome {
 }
 
 // A start's result. Where it was refused, every call on the memory is.
-#[derive(Drop)]
+#[derive(Clone, Copy, Drop)]
 pub struct Started {
     pub memory: Memory,
     pub check: Check,

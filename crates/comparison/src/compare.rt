@@ -12,14 +12,14 @@ use protocol::state::{Listener, Settings};
 use segment::refusal::{Check, Refusal};
 
 // How many records of a capture were fed, and how it ended.
-#[derive(Drop)]
+#[derive(Clone, Copy, Drop)]
 pub struct Summary {
     pub fed: u64,
     pub end: Check,
 }
 
 // How many differences are listed, how many more there are, and what each capture came to.
-#[derive(Drop)]
+#[derive(Clone, Copy, Drop)]
 pub struct Finding {
     pub listed: usize,
     pub remaining: u64,
@@ -28,7 +28,7 @@ pub struct Finding {
 }
 
 // The set-up was refused, or both captures were compared.
-#[derive(Drop)]
+#[derive(Clone, Copy, Drop)]
 pub enum Compared {
     Refused(Refusal),
     Done(Finding),

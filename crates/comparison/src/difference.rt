@@ -9,7 +9,7 @@ use listener::outcome::event_number;
 use protocol::outcome::Event;
 
 // No difference, or one, with the first place where the answers differ, the length of the shorter where no byte does, 2^64 - 1 where a record has no pair.
-#[derive(Drop)]
+#[derive(Clone, Copy, Drop)]
 pub enum Difference {
     Same,
     At(u64),

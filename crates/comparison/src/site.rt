@@ -31,7 +31,7 @@ pub enum Stand {
 }
 
 // What stands there, the walker behind it, and the place in the window where it goes on.
-#[derive(Drop)]
+#[derive(Clone, Copy, Drop)]
 pub struct Look {
     pub stand: Stand,
     pub walker: Walker,

@@ -17,7 +17,7 @@ pub fn make_cookie(round_keys: [u8; 176], b: [u8; 16]) -> [u8; 8]
 }
 
 // What is made of an opening's Fast Open option: whether its cookie is right, and whether a fresh one is to go with the SYN-ACK.
-#[derive(Drop)]
+#[derive(Clone, Copy, Drop)]
 pub struct OptionCheck {
     pub right: bool,
     pub fresh: bool,

@@ -26,7 +26,7 @@ pub fn is_opening(kind: Kind) -> bool
 }
 
 // A new connection: what happened, its slot, and the fresh cookie if one goes with the SYN-ACK.
-#[derive(Drop)]
+#[derive(Clone, Copy, Drop)]
 pub struct Opened {
     pub event: Event,
     pub slot: Slot,

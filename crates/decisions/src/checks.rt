@@ -46,7 +46,7 @@ pub fn check_output(
 }
 
 // A segment that passed the checks before its kind, or the refusal.
-#[derive(Drop)]
+#[derive(Clone, Copy, Drop)]
 pub enum Received {
     Dropped(Refusal),
     Read(Header),
@@ -120,7 +120,7 @@ fn admits_reset(s: Slot, h: Header) -> bool
 }
 
 // An opening is refused, repeats the one that the slot was made for, or is new.
-#[derive(Drop)]
+#[derive(Clone, Copy, Drop)]
 pub enum OpeningCheck {
     Refused(Refusal),
     Repeat,

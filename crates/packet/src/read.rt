@@ -15,7 +15,7 @@ pub const HEADER_V4: usize = 20;
 pub const HEADER_V6: usize = 40;
 
 // What a packet carries: a TCP segment, from this byte on, or something that is skipped.
-#[derive(Drop)]
+#[derive(Clone, Copy, Drop)]
 pub enum Carried {
     Tcp(usize),
     Other,

@@ -6,7 +6,7 @@ ghost use Rattle.pcap.specs.Record.{next_in};
 use crate::file::FILE_HEADER;
 use crate::record::{Next, next_at};
 
-#[derive(Drop)]
+#[derive(Clone, Copy, Drop)]
 pub struct Capture<'a> {
     pub file: &'a [u8],
     pub at: usize,

@@ -21,7 +21,7 @@ pub enum ByteOrder {
 }
 
 // What a file header comes to: it is bad (document 02's number 15), or it tells the byte order of the file.
-#[derive(Drop)]
+#[derive(Clone, Copy, Drop)]
 pub enum FileHeader {
     Bad,
     Good(ByteOrder),

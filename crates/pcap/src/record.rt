@@ -22,7 +22,7 @@ pub struct RecordHead {
 }
 
 // What comes next in a capture: a whole record, the end, a record that is cut (document 02's number 14), or what no capture has (15).
-#[derive(Drop)]
+#[derive(Clone, Copy, Drop)]
 pub enum Next {
     Record(RecordHead),
     End,

@@ -24,7 +24,7 @@ pub struct Walker {
 
 // What a step comes to: the file header was taken, or a record; more bytes are needed, if any are to come; the walk is over with number 15; or the
 // capture is longer than can be counted.
-#[derive(Drop)]
+#[derive(Clone, Copy, Drop)]
 pub enum Taken {
     Opened(ByteOrder),
     Record(RecordHead),
@@ -34,7 +34,7 @@ pub enum Taken {
 }
 
 // What a step came to, the walker next, and the place in the window where it goes on.
-#[derive(Drop)]
+#[derive(Clone, Copy, Drop)]
 pub struct Step {
     pub taken: Taken,
     pub walker: Walker,

@@ -11,7 +11,7 @@ use lists::copy::copy;
 use segment::refusal::{Check, Refusal};
 
 // What a write comes to, and how many bytes it wrote.
-#[derive(Drop)]
+#[derive(Clone, Copy, Drop)]
 pub struct Written {
     pub check: Check,
     pub len: usize,

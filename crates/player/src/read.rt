@@ -358,7 +358,7 @@ pub(crate) fn read_request(line: &[u8], a: &mut [u8], b: &mut [u8]) -> Reading
 }
 
 // A request as it is read, with the two buffers.
-#[derive(Drop)]
+#[derive(Clone, Copy, Drop)]
 pub struct LineRead {
     pub reading: Reading,
     pub a: [u8; MOST_BYTES],

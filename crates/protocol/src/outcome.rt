@@ -17,7 +17,7 @@ pub enum Event {
 }
 
 // A call's result: the listener next, what happened, how many bytes were written to the output, and what was remarked on an opening's options.
-#[derive(Drop)]
+#[derive(Clone, Copy, Drop)]
 pub struct Outcome {
     pub listener: Listener,
     pub event: Event,
@@ -26,7 +26,7 @@ pub struct Outcome {
 }
 
 // A start's result. Where it was refused, every call on the listener is.
-#[derive(Drop)]
+#[derive(Clone, Copy, Drop)]
 pub struct Started {
     pub listener: Listener,
     pub check: Check,

@@ -24,7 +24,7 @@ pub struct Slot {
 }
 
 // What one scan finds: the peer's place and the lowest free place, each 64 where there is none, and how many slots are pending.
-#[derive(Drop)]
+#[derive(Clone, Copy, Drop)]
 pub struct Scan {
     pub place: usize,
     pub free: usize,

@@ -20,7 +20,7 @@ pub struct Header {
 }
 
 // A segment is refused (document 01's number 1) or has a header.
-#[derive(Drop)]
+#[derive(Clone, Copy, Drop)]
 pub enum Shape {
     Malformed,
     WellFormed(Header),

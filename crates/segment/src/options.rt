@@ -46,7 +46,7 @@ pub enum FastOpenOption {
 }
 
 // The options that count: the first MSS, and the first Fast Open option in a coding that counts.
-#[derive(Drop)]
+#[derive(Clone, Copy, Drop)]
 pub struct Options {
     pub mss: Mss,
     pub fast: FastOpenOption,
@@ -156,7 +156,7 @@ pub fn is_counted(fast: FastOpenOption) -> bool
 
 // What the reader remarks on an area besides the options that count: how many Fast Open options it skipped for a bad length, where the used
 // one began, and where the reading broke off at a length that does not fit. Places are a kind byte's and count from 1; 0 is none.
-#[derive(Drop)]
+#[derive(Clone, Copy, Drop)]
 pub struct Remarks {
     pub skipped: usize,
     pub used: usize,
@@ -164,7 +164,7 @@ pub struct Remarks {
 }
 
 // All that the reader reports: the options that count, and its remarks.
-#[derive(Drop)]
+#[derive(Clone, Copy, Drop)]
 pub struct Report {
     pub options: Options,
     pub remarks: Remarks,

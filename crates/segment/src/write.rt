@@ -38,7 +38,7 @@ pub(crate) struct Outgoing {
 
 // A SYN-ACK, document 01's answer: both initial numbers, how many bytes of data were accepted, and whether a fresh cookie goes with it,
 // in this coding.
-#[derive(Drop)]
+#[derive(Clone, Copy, Drop)]
 pub struct SynAck {
     pub source: u16,
     pub dest: u16,
@@ -51,7 +51,7 @@ pub struct SynAck {
 }
 
 // An opening: our initial number, and whether a Fast Open option goes with it.
-#[derive(Drop)]
+#[derive(Clone, Copy, Drop)]
 pub struct Opening {
     pub source: u16,
     pub dest: u16,

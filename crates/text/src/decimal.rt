@@ -1,5 +1,5 @@
 // A number as decimal digits.
-ghost use Rattle.std.specs.Prelude.{◌≡◌, length, take};
+ghost use Rattle.std.specs.Prelude.{◌≡◌, length, take, drop};
 ghost use Rattle.text.specs.Number.{decimal};
 
 use lists::copy::copy;
@@ -11,6 +11,7 @@ pub const MOST_DIGITS: usize = 20;
 pub fn decimal(n: u64, digits: &mut [u8; MOST_DIGITS]) -> usize
     ensures value { result ≡ length (decimal n) }
     ensures digits_after { take result digits.new ≡ decimal n }
+    ensures rest { drop result digits.new ≡ drop result digits.old }
 {
     let mut back = [0u8; MOST_DIGITS];
     let mut i = MOST_DIGITS;

@@ -12,7 +12,7 @@ use segment::options::no_remarks;
 use segment::refusal::Refusal;
 
 // What a record came to: a call's outcome, or, of a skipped one, one that is done and changes nothing, or 13.
-#[derive(Drop)]
+#[derive(Clone, Copy, Drop)]
 pub struct Fed {
     pub is_fed: bool,
     pub outcome: Outcome,
