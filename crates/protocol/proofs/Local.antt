@@ -1,7 +1,6 @@
 -- No call changes a listener's own address, port and family. Assumes nothing.
 use Prim.Native.Nat.{ℕ}
 use mathlib.Core.Path.{◌≡◌, refl}
-use mathlib.Core.List.{List}
 use Rattle.segment.specs.Header.{fields_of}
 use Rattle.segment.specs.declared.refusal.Check.{Check}
 use Rattle.segment.specs.declared.refusal.Check.TheVariants.{Clear, Refused}

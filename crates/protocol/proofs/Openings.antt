@@ -19,7 +19,7 @@ use Rattle.lists.specs.Lists.{bit, tally, first_index}
 use Rattle.endpoint.specs.Address.{Peer, block}
 use Rattle.endpoint.specs.Checks.{is_untimely}
 use Rattle.lists.proofs.Sums.{sum-set, some_passes, first_passes, none_passes}
-use Rattle.protocol.specs.Cookie.{carried_by, counts, right_under, right}
+use Rattle.protocol.specs.Cookie.{counts, right_under, right}
 use Rattle.protocol.specs.Table.{is_live, is_pending, is_free, free_slot, new_slot, holds_peer, free_place, pending_at, pending_from}
 use Rattle.protocol.specs.Call.{segment, sender}
 use Rattle.protocol.specs.View.{known, view}

@@ -21,7 +21,7 @@ use Rattle.protocol.specs.Cookie.{Carried, carried_by, counts, right_under, righ
 use Rattle.protocol.specs.Call.{Call, sender, accepted_of, accepted_part}
 use Rattle.protocol.specs.View.{known, own_address, scan_for, view, view_of}
 use Rattle.protocol.specs.Refusals.{repeats, completes, resets, output_checks, kind_checks, call_check}
-use Rattle.protocol.specs.Step.{cookies_enabled, is_early, is_fresh, accepts, new_event, opening_event, segment_event, done_event, held_until, slot_after, syn_ack_to, writes_syn_ack, fresh_with, coding_for, done_output, segment_after, after, outcome_of, step, output_if, output_of}
+use Rattle.protocol.specs.Step.{cookies_enabled, is_early, is_fresh, new_event, opening_event, segment_event, done_event, held_until, slot_after, syn_ack_to, writes_syn_ack, fresh_with, coding_for, done_output, segment_after, after, outcome_of, step, output_if, output_of}
 use Rattle.protocol.specs.RemarksApart.{Alike, taking, Same}
 use Rattle.protocol.specs.declared.state.View.{View}
 use Rattle.protocol.specs.declared.state.Listener.{Listener}

@@ -18,7 +18,6 @@ use Rattle.segment.specs.declared.refusal.Check.TheVariants.{Clear, Refused}
 use Rattle.segment.specs.declared.header.Kind.{Kind}
 use Rattle.segment.specs.declared.header.Kind.TheVariants.{Syn, Rst, Ack, Other}
 use Rattle.endpoint.specs.Address.{Peer, block}
-use Rattle.endpoint.specs.Checks.{is_untimely}
 use Rattle.endpoint.proofs.Clear.{Passed, every-check}
 use Rattle.protocol.specs.Cookie.{right}
 use Rattle.protocol.specs.Table.{is_live, is_pending, after_reset, free_slot, with_status, free_place, pends_from, pending_from}

@@ -1,5 +1,5 @@
 -- Document 01, "The table of sixteen", proved: rows 1 to 12 and 16 from the segment crate's, and the three that speak of a call. Assumes nothing.
-use Prim.Native.Nat.{ℕ, ◌+◌, ◌≤◌, ◌<◌}
+use Prim.Native.Nat.{ℕ, ◌+◌, ◌≤◌}
 use mathlib.Core.Path.{◌≡◌, refl, ap, ◌∙◌}
 use mathlib.Core.Bool.{Bool, true, false, cond, not, ◌&&◌, and-false}
 use mathlib.Core.List.{List}
@@ -16,7 +16,7 @@ use Rattle.endpoint.specs.Address.{Peer, block}
 use Rattle.protocol.specs.Table.{pending_at}
 use Rattle.protocol.specs.Call.{segment, sender}
 use Rattle.protocol.specs.View.{view}
-use Rattle.protocol.specs.Step.{cookies_enabled, is_early, is_fresh, accepts, step, pending_number}
+use Rattle.protocol.specs.Step.{cookies_enabled, accepts, step, pending_number}
 use Rattle.protocol.specs.Refusals.{completes, kind_checks}
 use Rattle.protocol.specs.Sixteen.{NewOpening, HasRight, CompletesFive, Sixteen}
 use Rattle.protocol.specs.declared.state.View.{View}

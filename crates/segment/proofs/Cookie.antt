@@ -1,5 +1,5 @@
 -- What is found in an option area: a cookie lies in it and has 4 to 16 bytes, an even number; and of which segments it counts. Assumes nothing.
-use Rattle.std.proofs.Common.{◌≡◌, ℕ, zero, suc, ◌+◌, ◌-◌, ◌%◌, ◌≤◌, Bool, true, false, cond, ◌&&◌, ◌||◌, eqb, leb, List, [], ◌∷◌, length, drop, refl, arith, length-drop, length-take-le, eq-eqb, ne_eqb, eqb-true, le-leb, leb-true}
+use Rattle.std.proofs.Common.{◌≡◌, ℕ, ◌+◌, ◌-◌, ◌%◌, ◌≤◌, Bool, true, false, cond, ◌||◌, eqb, leb, List, length, drop, refl, arith, length-drop, length-take-le, eq-eqb, ne_eqb, eqb-true, le-leb, leb-true}
 use Rattle.segment.specs.Bytes.{byte_at}
 use Rattle.segment.specs.Header.{has, SYN, RST, ACK, FIN, fields_of, kind_of, option_area}
 use Rattle.segment.specs.declared.header.Kind.{Kind}
@@ -9,7 +9,6 @@ use Rattle.segment.specs.declared.options.Coding.TheVariants.{New, Older}
 use Rattle.segment.specs.declared.options.Codings.{Codings}
 use Rattle.segment.specs.declared.options.FastOpenOption.{FastOpenOption}
 use Rattle.segment.specs.declared.options.FastOpenOption.TheVariants.{Absent, Request, Cookie}
-use Rattle.segment.specs.declared.options.Options.{Options}
 use Rattle.segment.specs.Options.{is_cookie_length, cookie_at, is_in, prefix_length, option_in, counts_coding, is_fast_open_in, fast_open_option, first_fast_open, nothing, with_option, stands, read_options, if_syn, options_of, cookie_bytes, coding_of}
 use Rattle.lists.proofs.Bools.{and_true, chosen}
 use Rattle.segment.proofs.ReadFrom.{both_readings}

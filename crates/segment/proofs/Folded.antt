@@ -1,5 +1,5 @@
 -- The value of a sum of swapped words whose carries are put off, and a checksum that is right by its making. Assumes nothing.
-use Rattle.std.proofs.Common.{◌≡◌, ℕ, ◌+◌, ◌-◌, ◌*◌, ◌/◌, ◌%◌, ◌^◌, ◌<◌, ◌≤◌, List, [], ◌∷◌, ◌++◌, length, take, drop, sym, ap, ◌∙◌, add-zero, zero-add, arith, take-append-drop, length-take-le}
+use Rattle.std.proofs.Common.{◌≡◌, ℕ, ◌+◌, ◌*◌, ◌/◌, ◌%◌, ◌^◌, ◌<◌, ◌≤◌, List, [], ◌∷◌, ◌++◌, length, take, drop, sym, ap, ◌∙◌, add-zero, zero-add, arith, take-append-drop, length-take-le}
 use Rattle.lists.specs.Bytes.{Bytes}
 use Rattle.segment.specs.Bytes.{be16, word}
 use Rattle.segment.specs.Checksum.{ones_add, ones_sum, complement}

@@ -1,5 +1,5 @@
 -- The laws of the remarks: what each option adds to them, that the place of the used option agrees with what was found, and the samples. Assumes nothing.
-use Rattle.std.proofs.Common.{◌≡◌, ℕ, ◌+◌, ◌-◌, ◌≤◌, Bool, true, false, cond, ◌&&◌, eqb, List, ◌∷◌, length, sym, refl, ap, ◌∙◌, arith, le-leb}
+use Rattle.std.proofs.Common.{◌≡◌, ℕ, ◌+◌, ◌-◌, ◌≤◌, Bool, true, false, cond, eqb, List, ◌∷◌, length, sym, refl, ap, ◌∙◌, arith, le-leb}
 use mathlib.Core.Bool.{and-false}
 use Rattle.lists.proofs.Bools.{or_false, chosen}
 use Rattle.segment.specs.Bytes.{byte_at}
