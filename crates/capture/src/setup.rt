@@ -1,7 +1,7 @@
 // The set-up: its lines are played as `replay` plays them, and their answers printed.
 ghost use Rattle.std.specs.Prelude.{◌-◌, ◌≤◌};
 
-use console::streams::Streams;
+use console::streams::Console;
 use listener::calls::never_started;
 use player::play::play_line;
 use protocol::state::Listener;
@@ -19,7 +19,7 @@ struct Session {
     listener: Listener,
 }
 
-fn print_line(streams: Streams, l: Listener, line: &[u8], len: usize) -> Listener {
+fn print_line(streams: &mut Console, l: Listener, line: &[u8], len: usize) -> Listener {
     let mut text = [0u8; TEXT];
     let p = play_line(l, line, len, &mut text);
     let n = p.len;
@@ -29,7 +29,7 @@ fn print_line(streams: Streams, l: Listener, line: &[u8], len: usize) -> Listene
 
 // Takes the next part of the set-up, and plays the line where that completes one.
 fn play_part<R: Read>(
-    streams: Streams,
+    streams: &mut Console,
     source: &mut R,
     s: Session,
     input: &mut [u8; INPUT],
@@ -52,7 +52,7 @@ fn play_part<R: Read>(
 }
 
 // Plays all of it, and returns the listener.
-pub(crate) fn play_setup<R: Read>(streams: Streams, source: &mut R) -> Listener {
+pub(crate) fn play_setup<R: Read>(streams: &mut Console, source: &mut R) -> Listener {
     let mut input = [0u8; INPUT];
     let mut line = [0u8; LONGEST];
     let mut s = Session {

@@ -1,7 +1,7 @@
 // The walk over a capture of any size, through a window on it. The lines and the packets of a window are gathered, and written before the next read.
 use crate::line::{put_end, put_progress, put_skipped, put_start};
 use console::source::Source;
-use console::streams::Streams;
+use console::streams::Console;
 use endpoint::address::block_of;
 use listener::calls::pending;
 use listener::outcome::{accepted_part, event_number};
@@ -16,7 +16,7 @@ use protocol::outcome::Outcome;
 use protocol::state::Listener;
 use segment::refusal::{Check, Refusal, number};
 use std::fs::File;
-use std::io::{Read, Write};
+use std::io::{IsTerminal, Read, Write};
 use std::num::{wrapping_add_u64, wrapping_sub_u64};
 use text::output::{FILL, is_kept};
 use text::part::{first, rest};
@@ -79,21 +79,21 @@ struct Walk {
     tally: Tally,
 }
 
-// The capture, the file for the packets, if there is one, and the standard streams; whether progress is told.
+// The capture, the file for the packets, if there is one, and the standard streams; whether progress is told: where a person sees it, and not the lines.
 #[derive(Drop)]
 pub(crate) struct Files {
     capture: Source,
     out: Option<File>,
-    pub(crate) streams: Streams,
+    pub(crate) streams: Console,
     tells: bool,
 }
 
-pub(crate) fn new_files(capture: Source, out: Option<File>, streams: Streams) -> Files {
+pub(crate) fn new_files(capture: Source, out: Option<File>, streams: Console) -> Files {
     Files {
         capture,
         out,
         streams,
-        tells: streams.tells_alone(),
+        tells: streams.err.is_terminal() && !streams.out.is_terminal(),
     }
 }
 
@@ -315,7 +315,7 @@ fn write_gathered(
 }
 
 // Tells how far the walk is on standard error, where that is a terminal and the lines go elsewhere.
-fn tell_progress(streams: Streams, w: Walker) {
+fn tell_progress(streams: &mut Console, w: Walker) {
     let mut text = [0u8; 80];
     let n = put_progress(&mut text, w.records, w.bytes);
     streams.tell(first(&text, n));
@@ -363,7 +363,7 @@ fn read_on(
 }
 
 // How far the progress is told: anew where it is too far behind.
-fn told_after(t: Tally, w: Walker, streams: Streams, tells: bool) -> u64 {
+fn told_after(t: Tally, w: Walker, streams: &mut Console, tells: bool) -> u64 {
     if !tells {
         return t.told;
     }
@@ -396,7 +396,7 @@ fn walk_on(
     let walker = s.walker;
     t.lines = 0;
     t.packets = 0;
-    let told = told_after(t, walker, files.streams, files.tells);
+    let told = told_after(t, walker, &mut files.streams, files.tells);
     t.told = told;
     let listener = s.listener;
     let state = s.state;
@@ -426,7 +426,7 @@ fn walk_on(
 }
 
 // Prints the last line; where progress is told, how far the walk came.
-fn print_end(s: Walk, streams: Streams, tells: bool) {
+fn print_end(s: Walk, streams: &mut Console, tells: bool) {
     let w = s.walker;
     let t = s.tally;
     let mut text = [0u8; 128];
@@ -488,6 +488,6 @@ pub(crate) fn walk_capture(l: Listener, files: &mut Files, name: &[u8], out_name
         turns -= 1;
     }
     if is_over(s) {
-        print_end(s, files.streams, files.tells);
+        print_end(s, &mut files.streams, files.tells);
     }
 }

@@ -7,7 +7,7 @@ ghost use Rattle.std.specs.Prelude.{◌-◌, ◌≤◌};
 use client::calls::never_started;
 use client::state::Memory;
 use client_player::play::play_line;
-use console::streams::{Streams, new_streams};
+use console::streams::{Console, Streams};
 use std::io::Stdin;
 use text::line::LONGEST;
 use text::part::first;
@@ -23,7 +23,7 @@ struct Session {
 }
 
 // Plays a line, and prints what it came to.
-fn print_line(streams: Streams, m: Memory, line: &[u8], len: usize) -> Memory {
+fn print_line(streams: &mut Console, m: Memory, line: &[u8], len: usize) -> Memory {
     let mut text = [0u8; TEXT];
     let p = play_line(m, line, len, &mut text);
     let n = p.len;
@@ -33,7 +33,7 @@ fn print_line(streams: Streams, m: Memory, line: &[u8], len: usize) -> Memory {
 
 // Takes the next part of the input, and plays the line where that completes one.
 fn play_part(
-    streams: Streams,
+    streams: &mut Console,
     source: &mut Stdin,
     s: Session,
     input: &mut [u8; INPUT],
@@ -56,7 +56,10 @@ fn play_part(
 }
 
 fn main(rt: HostRuntime) {
-    let streams = new_streams(rt.stdout(), rt.stderr());
+    let mut streams = Streams {
+        out: rt.stdout(),
+        err: rt.stderr(),
+    };
     let mut source = rt.stdin();
     let mut input = [0u8; INPUT];
     let mut line = [0u8; LONGEST];
@@ -65,6 +68,6 @@ fn main(rt: HostRuntime) {
         memory: never_started(),
     };
     while s.reader.left > 0 {
-        s = play_part(streams, &mut source, s, &mut input, &mut line);
+        s = play_part(&mut streams, &mut source, s, &mut input, &mut line);
     }
 }

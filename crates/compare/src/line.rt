@@ -1,6 +1,6 @@
 // The lines that are printed, and those that are told on standard error.
 use comparison::compare::{Finding, Summary};
-use console::streams::Streams;
+use console::streams::Console;
 use segment::refusal::{Check, number};
 use text::part::first;
 use text::put::{put, put_field, put_number, put_number_field};
@@ -12,7 +12,7 @@ pub(crate) const LONGEST_ENTRY: usize = 42;
 const TOLD: usize = 16384;
 
 // Tells a name and what is wrong with it.
-pub(crate) fn tell_of(streams: Streams, name: &[u8], what: &[u8]) {
+pub(crate) fn tell_of(streams: &mut Console, name: &[u8], what: &[u8]) {
     let mut told = [0u8; TOLD];
     let a = put(&mut told, 0, name);
     let b = put(&mut told, a, what);
@@ -20,7 +20,7 @@ pub(crate) fn tell_of(streams: Streams, name: &[u8], what: &[u8]) {
 }
 
 // Tells which line of a file cannot be used, and why.
-pub(crate) fn tell_line(streams: Streams, name: &[u8], place: u64, line: &[u8], why: &[u8]) {
+pub(crate) fn tell_line(streams: &mut Console, name: &[u8], place: u64, line: &[u8], why: &[u8]) {
     let mut told = [0u8; TOLD];
     let a = put(&mut told, 0, name);
     let b = put(&mut told, a, b": line ");
@@ -59,7 +59,7 @@ fn put_entries(out: &mut [u8], list: &[u64], from: usize, to: usize) -> usize {
 
 // Prints the entries that were listed since the last time; `lines` has room for all that may be.
 pub(crate) fn print_entries(
-    streams: Streams,
+    streams: &mut Console,
     lines: &mut [u8],
     list: &[u64],
     from: usize,
@@ -77,7 +77,7 @@ fn number_of(check: Check) -> u8 {
 }
 
 // Prints the number of the set-up: of its refusal, or 0.
-pub(crate) fn print_check(streams: Streams, check: Check) -> bool {
+pub(crate) fn print_check(streams: &mut Console, check: Check) -> bool {
     let mut text = [0u8; 24];
     let n = put_last(&mut text, 0, number_of(check) as u64);
     streams.print(first(&text, n))
@@ -91,7 +91,7 @@ fn put_summary(out: &mut [u8], at: usize, s: Summary) -> usize {
 }
 
 // Prints the last three lines.
-pub(crate) fn print_finding(streams: Streams, f: Finding) -> bool {
+pub(crate) fn print_finding(streams: &mut Console, f: Finding) -> bool {
     let mut text = [0u8; 128];
     let one = f.first;
     let two = f.second;

@@ -7,9 +7,9 @@ mod setup;
 mod sides;
 
 use comparison::compare::set_up;
-use console::arguments::{LONGEST_NAME, argument, has_argument};
+use console::arguments::{LONGEST_NAME, argument};
 use console::source::{Source, open, try_reading};
-use console::streams::{Streams, new_streams};
+use console::streams::{Console, Streams};
 use line::print_check;
 use protocol::state::Settings;
 use segment::refusal::Check;
@@ -26,12 +26,12 @@ use text::word::is_word;
 // As long as an argument can be: leading zeros of ENTRIES are allowed.
 const ARGUMENT: usize = 131072;
 
-fn tell_usage(streams: Streams) {
+fn tell_usage(streams: &mut Console) {
     streams.tell(b"usage: compare SETUP CAPTURE CAPTURE [ENTRIES]\n");
 }
 
 // What was opened, if it can be read, which a folder cannot: nothing is printed before that is known. Else that is told.
-fn checked<S: Read + Drop>(streams: Streams, opened: io::Result<S>, name: &[u8]) -> Option<S> {
+fn checked<S: Read + Drop>(streams: &mut Console, opened: io::Result<S>, name: &[u8]) -> Option<S> {
     match opened {
         Ok(mut source) => match try_reading(&mut source) {
             Ok(()) => Some(source),
@@ -53,7 +53,7 @@ fn is_input(name: &[u8]) -> bool {
 }
 
 // A capture.
-fn open_capture(rt: &HostRuntime, streams: Streams, name: &[u8]) -> Option<Source> {
+fn open_capture(rt: &HostRuntime, streams: &mut Console, name: &[u8]) -> Option<Source> {
     if is_input(name) {
         return Some(Source::Input(rt.stdin()));
     }
@@ -80,7 +80,7 @@ fn set_up_and_compare(
     );
     let l = s.listener;
     let check = s.check;
-    if !print_check(files.streams, check) {
+    if !print_check(&mut files.streams, check) {
         return;
     }
     if let Check::Clear = check {
@@ -99,7 +99,7 @@ fn compare_with(
 ) {
     let mut own = [0u8; MOST_BYTES];
     let mut key = [0u8; MOST_BYTES];
-    match read_setup(files.streams, setup, setup_name, &mut own, &mut key) {
+    match read_setup(&mut files.streams, setup, setup_name, &mut own, &mut key) {
         SetUp::Unusable => {}
         SetUp::Usable(start, settings) => set_up_and_compare(
             &own, &key, start, settings, files, name1, name2, entries,
@@ -110,7 +110,7 @@ fn compare_with(
 // Opens the three files; standard input comes first, since a file that is opened takes its descriptor where it is closed.
 fn open_and_compare(
     rt: &HostRuntime,
-    streams: Streams,
+    streams: &mut Console,
     setup_name: &[u8],
     name1: &[u8],
     name2: &[u8],
@@ -133,41 +133,45 @@ fn open_and_compare(
     let mut files = Files {
         first: one,
         second: two,
-        streams,
+        streams: *streams,
     };
     compare_with(&mut setup, setup_name, &mut files, name1, name2, entries);
 }
 
-fn run(rt: &HostRuntime, streams: Streams, entries: u64) {
+fn run(rt: &HostRuntime, streams: &mut Console, entries: u64) {
     let mut path = [0u8; LONGEST_NAME];
     let mut path1 = [0u8; LONGEST_NAME];
     let mut path2 = [0u8; LONGEST_NAME];
-    let n = argument(rt, 1, &mut path);
-    let n1 = argument(rt, 2, &mut path1);
-    let n2 = argument(rt, 3, &mut path2);
+    let n = argument(rt, 1, &mut path).unwrap_or(0);
+    let n1 = argument(rt, 2, &mut path1).unwrap_or(0);
+    let n2 = argument(rt, 3, &mut path2).unwrap_or(0);
     if is_input(&path1[..n1]) && is_input(&path2[..n2]) {
-        return streams.tell(b"compare: only one capture can be standard input\n");
+        streams.tell(b"compare: only one capture can be standard input\n");
+        return;
     }
     open_and_compare(rt, streams, &path[..n], &path1[..n1], &path2[..n2], entries);
 }
 
 // ENTRIES, if it is given.
 fn entries_of(rt: &HostRuntime) -> Number {
-    if !has_argument(rt, 4) {
-        return Number::Value(MOST_ENTRIES);
-    }
     let mut word = [0u8; ARGUMENT];
-    let n = argument(rt, 4, &mut word);
-    read_number(&word[..n], MOST_ENTRIES)
+    match argument(rt, 4, &mut word) {
+        None => Number::Value(MOST_ENTRIES),
+        Some(n) => read_number(&word[..n], MOST_ENTRIES),
+    }
 }
 
 fn main(rt: HostRuntime) {
-    let streams = new_streams(rt.stdout(), rt.stderr());
-    if !has_argument(&rt, 3) || has_argument(&rt, 5) {
-        return tell_usage(streams);
+    let mut streams = Streams {
+        out: rt.stdout(),
+        err: rt.stderr(),
+    };
+    let mut none = [0u8; 1];
+    if argument(&rt, 3, &mut none).is_none() || argument(&rt, 5, &mut none).is_some() {
+        return tell_usage(&mut streams);
     }
     match entries_of(&rt) {
-        Number::Bad => tell_usage(streams),
-        Number::Value(entries) => run(&rt, streams, entries),
+        Number::Bad => tell_usage(&mut streams),
+        Number::Value(entries) => run(&rt, &mut streams, entries),
     }
 }

@@ -2,7 +2,7 @@
 ghost use Rattle.std.specs.Prelude.{◌-◌, ◌≤◌};
 
 use crate::line::{tell_line, tell_of};
-use console::streams::Streams;
+use console::streams::Console;
 use player::read::{Order, Reading, read_line};
 use protocol::state::Settings;
 use std::io::Read;
@@ -122,7 +122,7 @@ fn stage_after(
 }
 
 // Tells which line cannot be used, if this one cannot.
-fn tell_fault(streams: Streams, name: &[u8], place: u64, line: &[u8], stage: Stage) {
+fn tell_fault(streams: &mut Console, name: &[u8], place: u64, line: &[u8], stage: Stage) {
     let Stage::Faulty(fault) = stage else {
         return;
     };
@@ -138,7 +138,7 @@ fn tell_fault(streams: Streams, name: &[u8], place: u64, line: &[u8], stage: Sta
 
 // Takes the next part of the file, and what its line adds where that completes one.
 fn read_part<R: Read>(
-    streams: Streams,
+    streams: &mut Console,
     source: &mut R,
     name: &[u8],
     s: Session,
@@ -181,7 +181,7 @@ fn is_faulty(s: Session) -> bool {
 }
 
 // What the file came to; one that ended early is told.
-fn setup_of(streams: Streams, stage: Stage, name: &[u8]) -> SetUp {
+fn setup_of(streams: &mut Console, stage: Stage, name: &[u8]) -> SetUp {
     match stage {
         Stage::Begun => {
             tell_of(streams, name, b": no start line\n");
@@ -198,7 +198,7 @@ fn setup_of(streams: Streams, stage: Stage, name: &[u8]) -> SetUp {
 
 // Reads all of it, up to a line that cannot be used.
 pub(crate) fn read_setup<R: Read>(
-    streams: Streams,
+    streams: &mut Console,
     source: &mut R,
     name: &[u8],
     own: &mut [u8; MOST_BYTES],

@@ -3,7 +3,7 @@ use crate::line::{LONGEST_ENTRY, print_entries, print_finding};
 use comparison::compare::finding_of;
 use comparison::lockstep::{Advance, Comparison, Turn, new_comparison, take_turn};
 use console::source::Source;
-use console::streams::Streams;
+use console::streams::Console;
 use pcap::record::{MOST_CAPTURED, RECORD_HEADER};
 use pcap::window::refill;
 use protocol::state::Listener;
@@ -49,7 +49,7 @@ struct Walk {
 pub(crate) struct Files {
     pub(crate) first: Source,
     pub(crate) second: Source,
-    pub(crate) streams: Streams,
+    pub(crate) streams: Console,
 }
 
 fn is_going(a: Advance) -> bool {
@@ -98,7 +98,7 @@ fn moved(side: Side, at: usize) -> Side {
 // Reads on in a side's window; where nothing comes, that was all.
 fn read_on(
     capture: &mut Source,
-    streams: Streams,
+    streams: &mut Console,
     name: &[u8],
     window: &mut [u8; WINDOW],
     side: Side,
@@ -182,9 +182,8 @@ fn go_on(
     list: &[u64],
     lines: &mut [u8; LINES],
 ) -> Walk {
-    let streams = files.streams;
     let s = walk_after(before, a);
-    if !print_entries(streams, lines, list, before.written, s.written) {
+    if !print_entries(&mut files.streams, lines, list, before.written, s.written) {
         return stopped(s);
     }
     let side1 = s.first;
@@ -194,15 +193,29 @@ fn go_on(
         Turn::Went => s,
         Turn::NeedsFirst => with_first(
             s,
-            read_on(&mut files.first, streams, name1, window1, side1, input),
+            read_on(
+                &mut files.first,
+                &mut files.streams,
+                name1,
+                window1,
+                side1,
+                input,
+            ),
         ),
         Turn::NeedsSecond => with_second(
             s,
-            read_on(&mut files.second, streams, name2, window2, side2, input),
+            read_on(
+                &mut files.second,
+                &mut files.streams,
+                name2,
+                window2,
+                side2,
+                input,
+            ),
         ),
         Turn::Over(ends) => {
             let c = s.comparison;
-            print_finding(streams, finding_of(c, ends));
+            print_finding(&mut files.streams, finding_of(c, ends));
             stopped(s)
         }
     }

@@ -1,5 +1,5 @@
-// A program's arguments, files and standard streams, as bytes. Nothing is kept back: what is printed is written at once. No contract can say what
-// the system gives or takes, so these functions promise no more than that they are safe and end.
+// A program's arguments, files and standard streams, as bytes. Nothing is kept back: what is printed is written at once. What the system gives or
+// takes no contract can say; so the functions are generic over what they read and write, and say which bytes go through them.
 #![tactic(auto)]
 
 pub mod arguments;

@@ -1,17 +1,15 @@
-// Standard output and standard error.
+// Standard output and standard error, or what stands for them.
 ghost use Rattle.std.specs.Prelude.{◌≤◌, length};
 
-use std::io::{Error, IsTerminal, Stderr, Stdout, Write};
+use std::io::{Error, Stderr, Stdout, Write};
 
-#[derive(Clone, Copy)]
-pub struct Streams {
-    out: Stdout,
-    err: Stderr,
+#[derive(Clone, Copy, Drop)]
+pub struct Streams<W, E> {
+    pub out: W,
+    pub err: E,
 }
 
-pub fn new_streams(out: Stdout, err: Stderr) -> Streams {
-    Streams { out, err }
-}
+pub type Console = Streams<Stdout, Stderr>;
 
 // How long the text of an error is, without the number that the library puts behind it; zeros follow.
 fn text_end(text: &[u8]) -> usize
@@ -25,45 +23,58 @@ fn text_end(text: &[u8]) -> usize
     text.len()
 }
 
-impl Streams {
-    // Writes to standard error; what cannot be told there cannot be told.
-    pub fn tell(self, text: &[u8]) {
-        let mut err = self.err;
-        let _ = err.write_all(text);
+impl<W: Write, E: Write> Streams<W, E> {
+    ghost use Rattle.std.specs.Prelude.{◌≡◌, ◌++◌, ◌∷◌, [], ℕ, List, true, IsTrue};
+    ghost use Rattle.std.specs.Io.KnownBytes.{Appends};
+
+    // Writes to standard error, if it can.
+    pub fn tell(&mut self, text: &[u8]) -> bool
+        ensures told { IsTrue result → Appends (E.contents self.old.err) (E.contents self.new.err) text.now }
+        ensures out_kept { self.new.out ≡ self.old.out }
+    {
+        self.err.write_all(text).is_ok()
     }
 
-    // Writes to standard output, and goes on where that fails.
-    pub fn offer(self, text: &[u8]) {
-        let mut out = self.out;
-        let _ = out.write_all(text);
+    // Writes to standard output, if it can.
+    pub fn offer(&mut self, text: &[u8]) -> bool
+        ensures printed { IsTrue result → Appends (W.contents self.old.out) (W.contents self.new.out) text.now }
+        ensures err_kept { self.new.err ≡ self.old.err }
+    {
+        self.out.write_all(text).is_ok()
     }
 
-    // Tells what failed, as the caller names it, and why.
-    pub fn fail(self, what: &[u8], e: Error) {
+    // Tells what failed, as the caller names it, and why, if it can.
+    pub fn fail(&mut self, what: &[u8], e: Error) -> bool
+        ensures told { IsTrue result → (why : List ℕ) × Appends (E.contents self.old.err) (E.contents self.new.err) (what.now ++ ((58 ∷ 32 ∷ []) ++ (why ++ (10 ∷ [])))) }
+        ensures out_kept { self.new.out ≡ self.old.out }
+    {
         let mut text = [0u8; 256];
         let mut left: &mut [u8] = &mut text;
         let _ = write!(left, "{e}");
         let end = text_end(&text);
-        self.tell(what);
-        self.tell(b": ");
-        self.tell(&text[..end]);
-        self.tell(b"\n");
+        if !self.tell(what) {
+            return false;
+        }
+        if !self.tell(b": ") {
+            return false;
+        }
+        if !self.tell(&text[..end]) {
+            return false;
+        }
+        self.tell(b"\n")
     }
 
-    // Prints, or says that it cannot be done; answers whether it was.
-    pub fn print(self, text: &[u8]) -> bool {
-        let mut out = self.out;
-        match out.write_all(text) {
+    // Prints, or tells that it cannot be done; answers whether it was.
+    pub fn print(&mut self, text: &[u8]) -> bool
+        ensures printed { IsTrue result → Appends (W.contents self.old.out) (W.contents self.new.out) text.now }
+        ensures quiet { IsTrue result → self.new.err ≡ self.old.err }
+    {
+        match self.out.write_all(text) {
             Ok(()) => true,
             Err(e) => {
                 self.fail(b"standard output", e);
                 false
             }
         }
-    }
-
-    // Whether a person sees what is told, and does not see what is printed.
-    pub fn tells_alone(self) -> bool {
-        self.err.is_terminal() && !self.out.is_terminal()
     }
 }

@@ -7,7 +7,7 @@ mod ends;
 use client::calls::{answer, connect};
 use client::outcome::{ActiveOpen, Attempt, Event as ClientEvent, event_number as client_number};
 use client::state::Memory;
-use console::streams::{Streams, new_streams};
+use console::streams::{Console, Streams};
 use ends::{Ends, finish, print_counts, print_line};
 use listener::calls::{pending, segment, set_settings};
 use listener::outcome::accepted_part;
@@ -23,7 +23,7 @@ const CLIENT: [u8; 4] = [192, 0, 2, 1];
 const SERVER: [u8; 4] = [192, 0, 2, 2];
 
 // The client opens a connection and offers data, the listener takes the opening, the client takes the SYN-ACK. A refused call has changed nothing.
-fn exchange(streams: Streams, m: Memory, l: Listener, time: u64, port: u16) -> Ends {
+fn exchange(streams: &mut Console, m: Memory, l: Listener, time: u64, port: u16) -> Ends {
     let mut out = [0u8; LONGEST_OPENING];
     let open = ActiveOpen {
         source: port,
@@ -99,7 +99,10 @@ fn exchange(streams: Streams, m: Memory, l: Listener, time: u64, port: u16) -> E
 // Here the key and the initial numbers of both ends, 1000 and 7000, are fixed; in use they have to be hard to guess. Neither start is refused, nor are the
 // settings; had one start been, every call on that end would be.
 fn main(rt: HostRuntime) {
-    let streams = new_streams(rt.stdout(), rt.stderr());
+    let mut streams = Streams {
+        out: rt.stdout(),
+        err: rt.stderr(),
+    };
     let client = client::calls::start(4);
     let server = listener::calls::start(&SERVER, 443, &[7; 16]);
     let settings = Settings {
@@ -112,10 +115,10 @@ fn main(rt: HostRuntime) {
         share: 8,
     };
     let set = set_settings(server.listener, 0, settings);
-    print_line(streams, b"first opening, ", b"to get a cookie");
-    let asked = exchange(streams, client.memory, set.listener, 1, 40000);
+    print_line(&mut streams, b"first opening, ", b"to get a cookie");
+    let asked = exchange(&mut streams, client.memory, set.listener, 1, 40000);
     if !asked.stopped {
-        print_line(streams, b"second opening, ", b"to send data early");
-        exchange(streams, asked.memory, asked.listener, 2, 40001);
+        print_line(&mut streams, b"second opening, ", b"to send data early");
+        exchange(&mut streams, asked.memory, asked.listener, 2, 40001);
     }
 }

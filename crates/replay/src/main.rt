@@ -4,7 +4,7 @@
 
 ghost use Rattle.std.specs.Prelude.{◌-◌, ◌≤◌};
 
-use console::streams::{Streams, new_streams};
+use console::streams::{Console, Streams};
 use listener::calls::never_started;
 use player::play::play_line;
 use protocol::state::Listener;
@@ -23,7 +23,7 @@ struct Session {
 }
 
 // Plays a line, and prints what it came to.
-fn print_line(streams: Streams, l: Listener, line: &[u8], len: usize) -> Listener {
+fn print_line(streams: &mut Console, l: Listener, line: &[u8], len: usize) -> Listener {
     let mut text = [0u8; TEXT];
     let p = play_line(l, line, len, &mut text);
     let n = p.len;
@@ -33,7 +33,7 @@ fn print_line(streams: Streams, l: Listener, line: &[u8], len: usize) -> Listene
 
 // Takes the next part of the input, and plays the line where that completes one.
 fn play_part(
-    streams: Streams,
+    streams: &mut Console,
     source: &mut Stdin,
     s: Session,
     input: &mut [u8; INPUT],
@@ -56,7 +56,10 @@ fn play_part(
 }
 
 fn main(rt: HostRuntime) {
-    let streams = new_streams(rt.stdout(), rt.stderr());
+    let mut streams = Streams {
+        out: rt.stdout(),
+        err: rt.stderr(),
+    };
     let mut source = rt.stdin();
     let mut input = [0u8; INPUT];
     let mut line = [0u8; LONGEST];
@@ -65,6 +68,6 @@ fn main(rt: HostRuntime) {
         listener: never_started(),
     };
     while s.reader.left > 0 {
-        s = play_part(streams, &mut source, s, &mut input, &mut line);
+        s = play_part(&mut streams, &mut source, s, &mut input, &mut line);
     }
 }

@@ -7,14 +7,14 @@ mod data;
 mod pieces;
 mod records;
 
-use console::arguments::{argument, has_argument};
-use console::streams::{Streams, new_streams};
+use console::arguments::argument;
+use console::streams::{Console, Streams};
 use text::number::{Number, read_number};
 use text::part::first;
 use text::put::{put, put_number};
 use text::word::is_word;
 
-fn print_usage(streams: Streams) {
+fn print_usage(streams: &mut Console) {
     streams.offer(
         b"usage: timing block|expand|checksum|options|early|turned|shared|request|repeat|completion|refusal|full|unknown|walk COUNT LIVE PAYLOAD\n",
     );
@@ -77,7 +77,7 @@ fn digest_of(work: &[u8], count: u64, live: u64, payload: u64) -> Digest {
 // The number in an argument.
 fn number_asked(rt: &HostRuntime, place: usize, most: u64) -> Number {
     let mut word = [0u8; 32];
-    let n = argument(rt, place, &mut word);
+    let n = argument(rt, place, &mut word).unwrap_or(0);
     read_number(&word[..n], most)
 }
 
@@ -89,7 +89,7 @@ fn longest(work: &[u8]) -> u64 {
     1460
 }
 
-fn run(rt: &HostRuntime, streams: Streams, work: &[u8]) {
+fn run(rt: &HostRuntime, streams: &mut Console, work: &[u8]) {
     let Number::Value(count) = number_asked(rt, 2, u64::MAX) else {
         return print_usage(streams);
     };
@@ -109,11 +109,15 @@ fn run(rt: &HostRuntime, streams: Streams, work: &[u8]) {
 }
 
 fn main(rt: HostRuntime) {
-    let streams = new_streams(rt.stdout(), rt.stderr());
-    if !has_argument(&rt, 4) || has_argument(&rt, 5) {
-        return print_usage(streams);
+    let mut streams = Streams {
+        out: rt.stdout(),
+        err: rt.stderr(),
+    };
+    let mut none = [0u8; 1];
+    if argument(&rt, 4, &mut none).is_none() || argument(&rt, 5, &mut none).is_some() {
+        return print_usage(&mut streams);
     }
     let mut work = [0u8; 16];
-    let n = argument(&rt, 1, &mut work);
-    run(&rt, streams, &work[..n]);
+    let n = argument(&rt, 1, &mut work).unwrap_or(0);
+    run(&rt, &mut streams, &work[..n]);
 }
