@@ -12,22 +12,14 @@ use console::streams::{Console, Streams};
 use std::fs::File;
 use std::io;
 use text::word::is_word;
-use window::{Files, new_files};
+use window::{Failure, Output, walk_capture};
 
-fn tell_usage(streams: &mut Console) {
-    streams.tell(b"usage: capture SETUP CAPTURE [OUT]\n");
-}
-
-// Tells a name and what is wrong with it.
-fn tell_of(streams: &mut Console, name: &[u8], what: &[u8]) {
-    streams.tell(name);
-    streams.tell(what);
-}
-
-// Plays the set-up, and then walks the capture.
-fn play_and_walk(setup: &mut File, files: &mut Files, name: &[u8], out_name: &[u8]) {
-    let l = setup::play_setup(&mut files.streams, setup);
-    window::walk_capture(l, files, name, out_name);
+// The arguments.
+#[derive(Clone, Copy, Drop)]
+struct Names<'a> {
+    setup: &'a [u8],
+    capture: &'a [u8],
+    out: Option<&'a [u8]>,
 }
 
 // Opens a file, if it can be read: nothing is printed before that is known.
@@ -47,58 +39,51 @@ fn open_capture(rt: &HostRuntime, name: &[u8]) -> io::Result<Source> {
     Ok(Source::Opened(open_readable(rt, name)?))
 }
 
-// With both inputs open, opens the file for the packets, if there is to be one.
-fn run_with(
-    rt: &HostRuntime,
-    streams: &mut Console,
-    setup: &mut File,
-    setup_name: &[u8],
-    capture: Source,
-    name: &[u8],
-    has_out: bool,
-) {
-    if !has_out {
-        let mut files = new_files(capture, None, *streams);
-        return play_and_walk(setup, &mut files, name, b"");
+// What may not be the file for the packets: opening it would empty it.
+fn used_as(name: &[u8], names: &Names<'_>) -> Option<&'static [u8]> {
+    if is_word(name, names.capture) {
+        return Some(b": is the capture itself\n");
     }
-    let mut path = [0u8; LONGEST_NAME];
-    let n = argument(rt, 3, &mut path).unwrap_or(0);
-    let out_name = &path[..n];
-    // opening it would empty them
-    if is_word(out_name, name) {
-        return tell_of(streams, out_name, b": is the capture itself\n");
+    if is_word(name, names.setup) {
+        return Some(b": is the set-up itself\n");
     }
-    if is_word(out_name, setup_name) {
-        return tell_of(streams, out_name, b": is the set-up itself\n");
-    }
-    match create(rt, out_name) {
-        Ok(out) => {
-            let mut files = new_files(capture, Some(out), *streams);
-            play_and_walk(setup, &mut files, name, out_name);
-        }
-        Err(e) => {
-            streams.fail(out_name, e);
-        }
-    }
+    None
 }
 
-// With the set-up open, opens the capture.
-fn run(
-    rt: &HostRuntime,
-    streams: &mut Console,
-    setup: &mut File,
-    setup_name: &[u8],
-    has_out: bool,
-) {
-    let mut path = [0u8; LONGEST_NAME];
-    let n = argument(rt, 2, &mut path).unwrap_or(0);
-    let name = &path[..n];
-    match open_capture(rt, name) {
-        Ok(capture) => run_with(rt, streams, setup, setup_name, capture, name, has_out),
-        Err(e) => {
-            streams.fail(name, e);
+fn run<'a>(rt: &HostRuntime, streams: &mut Console, names: Names<'a>) -> Result<(), Failure<'a>> {
+    let setup_failed = |error| Failure {
+        what: names.setup,
+        error,
+    };
+    let mut setup = open_readable(rt, names.setup).map_err(setup_failed)?;
+    let mut capture = open_capture(rt, names.capture).map_err(|error| Failure {
+        what: names.capture,
+        error,
+    })?;
+    let out = match names.out {
+        None => None,
+        Some(name) => {
+            if let Some(what) = used_as(name, &names) {
+                streams.tell(name);
+                streams.tell(what);
+                return Ok(());
+            }
+            let file = create(rt, name).map_err(|error| Failure { what: name, error })?;
+            Some(Output::new(name, file))
         }
-    }
+    };
+    let listener = setup::play_setup(streams, &mut setup);
+    walk_capture(listener, streams, &mut capture, names.capture, out)
+}
+
+// The name in an argument, if there is one.
+fn name_at<'a>(
+    rt: &HostRuntime,
+    place: usize,
+    buffer: &'a mut [u8; LONGEST_NAME],
+) -> Option<&'a [u8]> {
+    let n = argument(rt, place, buffer)?;
+    Some(&buffer[..n])
 }
 
 fn main(rt: HostRuntime) {
@@ -106,20 +91,23 @@ fn main(rt: HostRuntime) {
         out: rt.stdout(),
         err: rt.stderr(),
     };
-    let mut none = [0u8; 1];
-    if argument(&rt, 2, &mut none).is_none() || argument(&rt, 4, &mut none).is_some() {
-        return tell_usage(&mut streams);
-    }
-    let mut path = [0u8; LONGEST_NAME];
-    let n = argument(&rt, 1, &mut path).unwrap_or(0);
-    let name = &path[..n];
-    match open_readable(&rt, name) {
-        Ok(mut setup) => {
-            let has_out = argument(&rt, 3, &mut none).is_some();
-            run(&rt, &mut streams, &mut setup, name, has_out);
-        }
-        Err(e) => {
-            streams.fail(name, e);
-        }
+    let mut setup = [0u8; LONGEST_NAME];
+    let mut capture = [0u8; LONGEST_NAME];
+    let mut out = [0u8; LONGEST_NAME];
+    let (Some(setup), Some(capture), None) = (
+        name_at(&rt, 1, &mut setup),
+        name_at(&rt, 2, &mut capture),
+        argument(&rt, 4, &mut out),
+    ) else {
+        streams.tell(b"usage: capture SETUP CAPTURE [OUT]\n");
+        return;
+    };
+    let names = Names {
+        setup,
+        capture,
+        out: name_at(&rt, 3, &mut out),
+    };
+    if let Err(failure) = run(&rt, &mut streams, names) {
+        streams.fail(failure.what, failure.error);
     }
 }

@@ -1,493 +1,276 @@
 // The walk over a capture of any size, through a window on it. The lines and the packets of a window are gathered, and written before the next read.
-use crate::line::{put_end, put_progress, put_skipped, put_start};
+use crate::line::{Gathered, LENT, LONGEST_RECORD};
 use console::source::Source;
 use console::streams::Console;
-use endpoint::address::block_of;
-use listener::calls::pending;
-use listener::outcome::{accepted_part, event_number};
-use packet::read::{find_tcp, source_part, tcp_part};
-use packet::write::write_packet;
-use pcap::record::{MOST_CAPTURED, RECORD_HEADER, RecordHead, packet_in};
+use listener::outcome::event_number;
+use pcap::record::{RecordHead, packet_in};
 use pcap::walker::{Taken, Walker, finish, new_walker, take_next};
 use pcap::window::refill;
-use pcap::write::{write_file_header, write_record};
-use player::line::put_fields;
-use protocol::outcome::Outcome;
 use protocol::state::Listener;
-use segment::refusal::{Check, Refusal, number};
+use segment::refusal::Refusal;
 use std::fs::File;
-use std::io::{IsTerminal, Read, Write};
-use std::num::{wrapping_add_u64, wrapping_sub_u64};
-use text::output::{FILL, is_kept};
+use std::io::{Error, IsTerminal, Read, Write};
+use text::output::FILL;
 use text::part::{first, rest};
-use text::put::put;
-use walk::feed::{feed, time_of};
+use walk::feed::{accepted_in, feed, time_of};
 
 // One read brings so many bytes at most.
 const INPUT: usize = 65536;
 
 // A walker keeps less than a record, so the window has room for that and for what a read brings.
-const KEPT: usize = RECORD_HEADER + MOST_CAPTURED;
-
-const WINDOW: usize = KEPT + INPUT;
+const WINDOW: usize = LONGEST_RECORD + INPUT;
 
 // The room for lines and for packets, and how much of it is left free for those of one record.
 const ROOM: usize = 65536;
 
 const FREE: usize = 8192;
 
-// How many bytes of output are lent to a call.
-const LENT: usize = 64;
-
 // How many bytes the progress that is told may be behind.
 const BEHIND: u64 = 1048576;
 
-// Where the walk stands in a window.
+// What could not be opened, read or written, and why.
+#[derive(Drop)]
+pub(crate) struct Failure<'a> {
+    pub(crate) what: &'a [u8],
+    pub(crate) error: Error,
+}
+
+// The file for the packets, and those that are gathered.
+#[derive(Drop)]
+pub(crate) struct Output<'a> {
+    name: &'a [u8],
+    file: File,
+    packets: Gathered<ROOM>,
+}
+
+impl<'a> Output<'a> {
+    pub(crate) fn new(name: &'a [u8], file: File) -> Output<'a> {
+        let mut packets = Gathered::new();
+        packets.put_file_header();
+        Output {
+            name,
+            file,
+            packets,
+        }
+    }
+
+    fn write(&mut self) -> Result<(), Failure<'a>> {
+        let what = self.name;
+        self.file
+            .write_all(self.packets.part())
+            .map_err(|error| Failure { what, error })?;
+        self.packets.clear();
+        Ok(())
+    }
+}
+
+// The window's bytes that are left, from `at` to `end`.
+#[derive(Drop)]
+struct Window {
+    bytes: [u8; WINDOW],
+    at: usize,
+    end: usize,
+}
+
+impl Window {
+    fn new() -> Window {
+        Window {
+            bytes: [0; WINDOW],
+            at: 0,
+            end: 0,
+        }
+    }
+
+    fn part(&self) -> &[u8] {
+        first(&self.bytes, self.end)
+    }
+
+    fn refill(&mut self, read: &[u8]) {
+        self.end = refill(&mut self.bytes, self.at, self.end, read);
+        self.at = 0;
+    }
+}
+
+// Why a walk cannot go on in a window.
 #[derive(Clone, Copy, Drop)]
-enum State {
-    // it goes on
-    Going,
+enum Stop {
     // what was gathered is to be written first
     Full,
     // more bytes are needed, if there are any
     Needing,
     // the walk is over
-    Over,
-    // a file could not be read or written, which was told
-    Failed,
+    Over(Refusal),
 }
 
-// The window's bytes that are left, from `at` to `end`; the number that the walk ended with; how many records were fed and skipped; how many bytes of lines
-// and of packets are gathered; how far the progress was when it was told.
-#[derive(Clone, Copy, Drop)]
-struct Tally {
-    at: usize,
-    end: usize,
-    number: u8,
-    fed: u64,
-    skipped: u64,
-    lines: usize,
-    packets: usize,
-    told: u64,
-}
-
-#[derive(Clone, Copy, Drop)]
-struct Walk {
+// Where the walk stands, how many records were fed and skipped, and what is gathered: lines and, if there is a file for them, packets.
+#[derive(Drop)]
+struct Walk<'a> {
     listener: Listener,
     walker: Walker,
-    state: State,
-    tally: Tally,
+    fed: u64,
+    skipped: u64,
+    lines: Gathered<ROOM>,
+    out: Option<Output<'a>>,
 }
 
-// The capture, the file for the packets, if there is one, and the standard streams; whether progress is told: where a person sees it, and not the lines.
-#[derive(Drop)]
-pub(crate) struct Files {
-    capture: Source,
-    out: Option<File>,
-    pub(crate) streams: Console,
-    tells: bool,
-}
-
-pub(crate) fn new_files(capture: Source, out: Option<File>, streams: Console) -> Files {
-    Files {
-        capture,
-        out,
-        streams,
-        tells: streams.err.is_terminal() && !streams.out.is_terminal(),
+impl<'a> Walk<'a> {
+    // Whether there is room for the lines and the packets of one record more.
+    fn has_room(&self) -> bool {
+        if self.lines.room() < FREE {
+            return false;
+        }
+        match &self.out {
+            Some(out) => out.packets.room() >= FREE,
+            None => true,
+        }
     }
-}
 
-// Gathers a record's bytes at a place, and returns the place after them.
-fn put_record(
-    packets: &mut [u8],
-    at: usize,
-    head: RecordHead,
-    original: u32,
-    packet: &[u8],
-) -> usize {
-    let mut made = [0u8; KEPT];
-    let w = write_record(&mut made, head.seconds, head.micros, original, packet);
-    let n = w.len;
-    put(packets, at, first(&made, n))
-}
-
-// Gathers the packet of a fed record and, where there is an answer, a packet of the same time that takes it to the sender.
-fn put_packets(
-    packets: &mut [u8],
-    at: usize,
-    l: Listener,
-    head: RecordHead,
-    packet: &[u8],
-    answer: &[u8],
-) -> usize {
-    let next = put_record(packets, at, head, head.original, packet);
-    if answer.len() == 0 {
-        return next;
-    }
-    let local = l.local;
-    let family = local.family;
-    let own = local.own;
-    let sender = block_of(source_part(family, packet));
-    let mut carrier = [0u8; LENT + 40];
-    let w = write_packet(&mut carrier, family, own, sender, answer);
-    let n = w.len;
-    put_record(packets, next, head, (n % 65536) as u32, first(&carrier, n))
-}
-
-// The line of a fed record, behind its place and time.
-fn put_fed(lines: &mut [u8], at: usize, o: Outcome, packet: &[u8], lent: &[u8]) -> usize {
-    let l = o.listener;
-    let local = l.local;
-    let family = local.family;
-    let own = local.own;
-    let event = o.event;
-    let written = o.written;
-    let segment = tcp_part(packet, find_tcp(family, own, packet));
-    put_fields(
-        lines,
-        at,
-        event,
-        pending(l),
-        first(lent, written),
-        accepted_part(segment, event),
-        is_kept(lent, written),
-        o.remarks,
-    )
-}
-
-// Feeds the record that the walker took, and gathers its line and its packets.
-fn feed_record(
-    l: Listener,
-    walker: Walker,
-    tally: Tally,
-    place: u64,
-    head: RecordHead,
-    packet: &[u8],
-    has_out: bool,
-    lines: &mut [u8; ROOM],
-    packets: &mut [u8; ROOM],
-) -> Walk {
-    let mut t = tally;
-    let mut lent = [FILL; LENT];
-    let time = time_of(head.seconds, head.micros);
-    let start = put_start(lines, t.lines, place, time);
-    let f = feed(l, place, head.seconds, head.micros, packet, &mut lent);
-    let o = f.outcome;
-    if !f.is_fed {
-        let event = o.event;
-        t.skipped = wrapping_add_u64(t.skipped, 1);
-        t.lines = put_skipped(lines, start, event_number(event));
-        return Walk {
-            listener: l,
-            walker,
-            state: State::Going,
-            tally: t,
-        };
-    }
-    let listener = o.listener;
-    let written = o.written;
-    t.fed = wrapping_add_u64(t.fed, 1);
-    t.lines = put_fed(lines, start, o, packet, &lent);
-    if has_out {
-        t.packets = put_packets(
-            packets,
-            t.packets,
-            listener,
-            head,
+    // Feeds the record at a place, and gathers its line and its packets.
+    fn feed_record(&mut self, place: u64, head: RecordHead, packet: &[u8]) {
+        let mut lent = [FILL; LENT];
+        let local = self.listener.local;
+        self.lines
+            .put_start(place, time_of(head.seconds, head.micros));
+        let fed = feed(
+            self.listener,
+            place,
+            head.seconds,
+            head.micros,
             packet,
-            first(&lent, written),
+            &mut lent,
         );
+        let outcome = fed.outcome;
+        if !fed.is_fed {
+            self.skipped = self.skipped.wrapping_add(1);
+            self.lines.put_skipped(event_number(outcome.event));
+            return;
+        }
+        self.fed = self.fed.wrapping_add(1);
+        self.listener = outcome.listener;
+        self.lines
+            .put_fed(outcome, &lent, accepted_in(local, packet, outcome.event));
+        if let Some(out) = &mut self.out {
+            let answer = first(&lent, outcome.written);
+            out.packets.put_packets(local, head, packet, answer);
+        }
     }
-    Walk {
+
+    // Takes what comes next in the window. (A capture that is longer than can be counted ends as a cut one.)
+    fn take_one(&mut self, window: &mut Window) -> Result<(), Stop> {
+        if !self.has_room() {
+            return Err(Stop::Full);
+        }
+        let place = self.walker.records;
+        let step = take_next(self.walker, window.part(), window.at);
+        match step.taken {
+            Taken::More => return Err(Stop::Needing),
+            Taken::Bad => return Err(Stop::Over(Refusal::BadCapture)),
+            Taken::TooLong => return Err(Stop::Over(Refusal::CutRecord)),
+            Taken::Opened(_) => {}
+            Taken::Record(head) => {
+                let packet = packet_in(rest(window.part(), window.at), head.captured);
+                self.feed_record(place, head, packet);
+            }
+        }
+        self.walker = step.walker;
+        window.at = step.next;
+        Ok(())
+    }
+
+    // Takes all that the window allows. A proved loop has to end: a window has fewer records than it has bytes.
+    fn take_all(&mut self, window: &mut Window) -> Stop {
+        for _ in 0..WINDOW {
+            if let Err(stop) = self.take_one(window) {
+                return stop;
+            }
+        }
+        Stop::Full
+    }
+
+    // Writes what was gathered.
+    fn write_gathered(&mut self, streams: &mut Console) -> Result<(), Failure<'a>> {
+        print(streams, self.lines.part())?;
+        self.lines.clear();
+        match &mut self.out {
+            Some(out) => out.write(),
+            None => Ok(()),
+        }
+    }
+
+    // Tells how far the walk is.
+    fn tell_progress(&self, streams: &mut Console) {
+        let mut text = Gathered::<80>::new();
+        text.put_progress(self.walker.records, self.walker.bytes);
+        streams.tell(text.part());
+    }
+
+    // Prints the last line; where progress is told, how far the walk came.
+    fn print_end(
+        &self,
+        streams: &mut Console,
+        check: Result<(), Refusal>,
+        tells: bool,
+    ) -> Result<(), Failure<'a>> {
+        let mut text = Gathered::<128>::new();
+        let number = check.err().map_or(0, u8::from);
+        text.put_end(number, self.walker.records, self.fed, self.skipped);
+        if tells {
+            self.tell_progress(streams);
+            streams.tell(b"\n");
+        }
+        print(streams, text.part())
+    }
+}
+
+fn print<'a>(streams: &mut Console, text: &[u8]) -> Result<(), Failure<'a>> {
+    streams.out.write_all(text).map_err(|error| Failure {
+        what: b"standard output",
+        error,
+    })
+}
+
+// Walks a capture. Progress is told where a person sees it, and not the lines.
+pub(crate) fn walk_capture<'a>(
+    listener: Listener,
+    streams: &mut Console,
+    capture: &mut Source,
+    name: &'a [u8],
+    out: Option<Output<'a>>,
+) -> Result<(), Failure<'a>> {
+    let mut walk = Walk {
         listener,
-        walker,
-        state: State::Going,
-        tally: t,
-    }
-}
-
-fn stopped(s: Walk, state: State, number: u8) -> Walk {
-    let mut t = s.tally;
-    t.number = number;
-    let listener = s.listener;
-    let walker = s.walker;
-    Walk {
-        listener,
-        walker,
-        state,
-        tally: t,
-    }
-}
-
-// Whether there is room for the lines and the packets of one record more.
-fn has_room(t: Tally) -> bool {
-    if t.lines > ROOM - FREE {
-        return false;
-    }
-    t.packets <= ROOM - FREE
-}
-
-// Takes what comes next in the window. (A capture that is longer than can be counted ends as a cut one.)
-fn take_one(
-    s: Walk,
-    window: &[u8],
-    has_out: bool,
-    lines: &mut [u8; ROOM],
-    packets: &mut [u8; ROOM],
-) -> Walk {
-    let mut t = s.tally;
-    if !has_room(t) {
-        return stopped(s, State::Full, 0);
-    }
-    let at = t.at;
-    let w = s.walker;
-    let step = take_next(w, window, at);
-    t.at = step.next;
-    let walker = step.walker;
-    let listener = s.listener;
-    let taken = step.taken;
-    match taken {
-        Taken::More => stopped(s, State::Needing, 0),
-        Taken::Bad => stopped(s, State::Over, number(Refusal::BadCapture)),
-        Taken::TooLong => stopped(s, State::Over, number(Refusal::CutRecord)),
-        Taken::Opened(_) => Walk {
-            listener,
-            walker,
-            state: State::Going,
-            tally: t,
-        },
-        Taken::Record(head) => {
-            let packet = packet_in(rest(window, at), head.captured);
-            feed_record(
-                listener, walker, t, w.records, head, packet, has_out, lines, packets,
-            )
-        }
-    }
-}
-
-fn is_going(s: Walk) -> bool {
-    let state = s.state;
-    if let State::Going = state {
-        true
-    } else {
-        false
-    }
-}
-
-// Takes all that the window allows. A proved loop has to end: a window has fewer records than it has bytes.
-fn walk_window(
-    start: Walk,
-    window: &[u8],
-    has_out: bool,
-    lines: &mut [u8; ROOM],
-    packets: &mut [u8; ROOM],
-) -> Walk {
-    let mut s = start;
-    let mut turns = WINDOW;
-    while turns > 0 && is_going(s) {
-        s = take_one(s, window, has_out, lines, packets);
-        turns -= 1;
-    }
-    s
-}
-
-// Writes what was gathered; where that cannot be done, says so, and answers false.
-fn write_gathered(
-    t: Tally,
-    files: &mut Files,
-    out_name: &[u8],
-    lines: &[u8],
-    packets: &[u8],
-) -> bool {
-    if !files.streams.print(first(lines, t.lines)) {
-        return false;
-    }
-    let Some(out) = &mut files.out else {
-        return true;
-    };
-    match out.write_all(first(packets, t.packets)) {
-        Ok(()) => true,
-        Err(e) => {
-            files.streams.fail(out_name, e);
-            false
-        }
-    }
-}
-
-// Tells how far the walk is on standard error, where that is a terminal and the lines go elsewhere.
-fn tell_progress(streams: &mut Console, w: Walker) {
-    let mut text = [0u8; 80];
-    let n = put_progress(&mut text, w.records, w.bytes);
-    streams.tell(first(&text, n));
-}
-
-fn number_of(check: Check) -> u8 {
-    match check {
-        Check::Clear => 0,
-        Check::Refused(why) => number(why),
-    }
-}
-
-// Reads on; where nothing comes the walk is over.
-fn read_on(
-    s: Walk,
-    files: &mut Files,
-    name: &[u8],
-    window: &mut [u8; WINDOW],
-    input: &mut [u8; INPUT],
-) -> Walk {
-    let n = match files.capture.read(input) {
-        Ok(n) => n,
-        Err(e) => {
-            files.streams.fail(name, e);
-            return stopped(s, State::Failed, 0);
-        }
-    };
-    let mut t = s.tally;
-    let walker = s.walker;
-    let at = t.at;
-    let end = t.end;
-    if n == 0 {
-        let check = finish(walker, first(window, end), at);
-        return stopped(s, State::Over, number_of(check));
-    }
-    t.end = refill(window, at, end, first(input, n));
-    t.at = 0;
-    let listener = s.listener;
-    Walk {
-        listener,
-        walker,
-        state: State::Going,
-        tally: t,
-    }
-}
-
-// How far the progress is told: anew where it is too far behind.
-fn told_after(t: Tally, w: Walker, streams: &mut Console, tells: bool) -> u64 {
-    if !tells {
-        return t.told;
-    }
-    if wrapping_sub_u64(w.bytes, t.told) < BEHIND {
-        return t.told;
-    }
-    tell_progress(streams, w);
-    w.bytes
-}
-
-// Takes all that the window allows, writes what was gathered, and reads on where that is needed.
-fn walk_on(
-    start: Walk,
-    files: &mut Files,
-    name: &[u8],
-    out_name: &[u8],
-    window: &mut [u8; WINDOW],
-    input: &mut [u8; INPUT],
-    lines: &mut [u8; ROOM],
-    packets: &mut [u8; ROOM],
-) -> Walk {
-    let before = start.tally;
-    let end = before.end;
-    let has_out = files.out.is_some();
-    let s = walk_window(start, first(window, end), has_out, lines, packets);
-    let mut t = s.tally;
-    if !write_gathered(t, files, out_name, lines, packets) {
-        return stopped(s, State::Failed, 0);
-    }
-    let walker = s.walker;
-    t.lines = 0;
-    t.packets = 0;
-    let told = told_after(t, walker, &mut files.streams, files.tells);
-    t.told = told;
-    let listener = s.listener;
-    let state = s.state;
-    match state {
-        State::Over => Walk {
-            listener,
-            walker,
-            state: State::Over,
-            tally: t,
-        },
-        State::Needing => {
-            let next = Walk {
-                listener,
-                walker,
-                state: State::Going,
-                tally: t,
-            };
-            read_on(next, files, name, window, input)
-        }
-        _ => Walk {
-            listener,
-            walker,
-            state: State::Going,
-            tally: t,
-        },
-    }
-}
-
-// Prints the last line; where progress is told, how far the walk came.
-fn print_end(s: Walk, streams: &mut Console, tells: bool) {
-    let w = s.walker;
-    let t = s.tally;
-    let mut text = [0u8; 128];
-    let n = put_end(&mut text, t.number, w.records, t.fed, t.skipped);
-    if tells {
-        tell_progress(streams, w);
-        streams.tell(b"\n");
-    }
-    streams.print(first(&text, n));
-}
-
-fn is_over(s: Walk) -> bool {
-    let state = s.state;
-    if let State::Over = state { true } else { false }
-}
-
-fn file_header_length(has_out: bool, packets: &mut [u8; ROOM]) -> usize {
-    if !has_out {
-        return 0;
-    }
-    let w = write_file_header(packets);
-    w.len
-}
-
-// Walks a capture. A proved loop has to end, and the capture need not: the turns are counted down from a number that no run uses up.
-pub(crate) fn walk_capture(l: Listener, files: &mut Files, name: &[u8], out_name: &[u8]) {
-    let mut window = [0u8; WINDOW];
-    let mut input = [0u8; INPUT];
-    let mut lines = [0u8; ROOM];
-    let mut packets = [0u8; ROOM];
-    let has_out = files.out.is_some();
-    let mut s = Walk {
-        listener: l,
         walker: new_walker(),
-        state: State::Going,
-        tally: Tally {
-            at: 0,
-            end: 0,
-            number: 0,
-            fed: 0,
-            skipped: 0,
-            lines: 0,
-            packets: file_header_length(has_out, &mut packets),
-            told: 0,
-        },
+        fed: 0,
+        skipped: 0,
+        lines: Gathered::new(),
+        out,
     };
-    let mut turns = u64::MAX;
-    while turns > 0 && is_going(s) {
-        s = walk_on(
-            s,
-            files,
-            name,
-            out_name,
-            &mut window,
-            &mut input,
-            &mut lines,
-            &mut packets,
-        );
-        turns -= 1;
+    let mut window = Window::new();
+    let mut input = [0u8; INPUT];
+    let tells = streams.err.is_terminal() && !streams.out.is_terminal();
+    let mut told = 0;
+    // a proved loop has to end, and the capture need not: no run uses up so many turns
+    for _ in 0..u64::MAX {
+        let stop = walk.take_all(&mut window);
+        walk.write_gathered(streams)?;
+        if tells && walk.walker.bytes.wrapping_sub(told) >= BEHIND {
+            walk.tell_progress(streams);
+            told = walk.walker.bytes;
+        }
+        match stop {
+            Stop::Full => {}
+            Stop::Over(why) => return walk.print_end(streams, Err(why), tells),
+            Stop::Needing => {
+                let n = capture
+                    .read(&mut input)
+                    .map_err(|error| Failure { what: name, error })?;
+                if n == 0 {
+                    let check = finish(walk.walker, window.part(), window.at);
+                    return walk.print_end(streams, check, tells);
+                }
+                window.refill(first(&input, n));
+            }
+        }
     }
-    if is_over(s) {
-        print_end(s, &mut files.streams, files.tells);
-    }
+    Ok(())
 }

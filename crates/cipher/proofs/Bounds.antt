@@ -1,9 +1,10 @@
 -- The S-box gives bytes, and an encrypted block is made of bytes, if the key schedule is. Assumes nothing.
-use mathlib.Core.List.{List, [], ◌∷◌}
-use Prim.Native.Nat.{ℕ, zero, suc, ◌<◌}
+use Prim.Native.Nat.{ℕ, ◌<◌}
 use native.Mathlib.Omega.{arith}
 use lib.Bits.{xor_lt}
 use lib.ListN.{drop, get_or}
+use Rattle.lists.specs.Bytes.{Bytes as AllBytes}
+use Rattle.lists.proofs.ByteLists.{each_byte}
 use Rattle.cipher.specs.Field.{◌⊕◌, inverse}
 use Rattle.cipher.specs.Cipher.{Bytes, affine_bit, affine_bits, affine, s_box, add_round_key, cipher}
 
@@ -21,22 +22,12 @@ pub s_box_byte : (x : ℕ) → s_box x < 256
 unfolding s_box
 s_box_byte x = affine-byte (inverse x)
 
--- a list whose elements are bytes, element by element
-abbrev Below : List ℕ → Type 0
-Below [] = Unit {0}
-Below (x ∷ xs) = (x < 256) × Below xs
-
-each_below : (xs : List ℕ) → Below xs → (i : ℕ) → get_or xs i 0 < 256
-each_below [] h i = omega arith
-each_below (x ∷ xs) h zero = h.0
-each_below (x ∷ xs) h (suc i) = each_below xs h.1 i
-
 -- the last step adds a round key to bytes of the S-box
 pub cipher-byte : (w b : Bytes) → ((i : ℕ) → get_or w i 0 < 256) → (i : ℕ) → get_or (cipher w b) i 0 < 256
 unfolding cipher add_round_key
 cipher-byte w b h i =
-    let last : Below (drop 8 (cipher w b)) = (cell _ 168, (cell _ 169, (cell _ 170, (cell _ 171, (cell _ 172, (cell _ 173, (cell _ 174, (cell _ 175, tt)))))))) in
-    each_below (cipher w b) (cell _ 160, (cell _ 161, (cell _ 162, (cell _ 163, (cell _ 164, (cell _ 165, (cell _ 166, (cell _ 167, last)))))))) i
+    let last : AllBytes (drop 8 (cipher w b)) = (cell _ 168, (cell _ 169, (cell _ 170, (cell _ 171, (cell _ 172, (cell _ 173, (cell _ 174, (cell _ 175, tt)))))))) in
+    each_byte (cipher w b) (cell _ 160, (cell _ 161, (cell _ 162, (cell _ 163, (cell _ 164, (cell _ 165, (cell _ 166, (cell _ 167, last)))))))) i
   where
     cell : (x k : ℕ) → (s_box x ⊕ get_or w k 0) < 256
     cell x k = xor_lt 8 (s_box x) (get_or w k 0) (s_box_byte x) (h k)

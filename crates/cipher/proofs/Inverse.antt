@@ -20,7 +20,7 @@ if_set-byte : (t : Bool) (b : ℕ) → b < 256 → if_set t b < 256
 if_set-byte true b h = h
 if_set-byte false b h = omega arith
 
-product_byte : (n a b : ℕ) → b < 256 → product_of n a b < 256
+pub product_byte : (n a b : ℕ) → b < 256 → product_of n a b < 256
 unfolding product_of
 product_byte zero a b h = omega arith
 product_byte (suc n) a b h =

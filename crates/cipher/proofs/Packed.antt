@@ -4,14 +4,17 @@ use mathlib.Core.Path.{◌≡◌, ap, ap₂, sym, ◌∙◌}
 use mathlib.Core.List.{List, [], ◌∷◌}
 use Prim.Native.Nat.{ℕ, ◌+◌, ◌*◌, ◌/◌, ◌%◌, ◌<◌, ◌^◌}
 use native.Mathlib.Omega.{arith}
-use lib.Bits.{bit_xor, xor_mod, xor_shr, xor_lt, xor_zero_r}
+use lib.Bits.{bit_xor, xor_mod, xor_shr}
+use Rattle.std.specs.Int.{rotate_right, w32}
+use Rattle.std.proofs.lemmas.Nat.{or_comm, or_shifted}
 use lib.Dec.{T}
 use lib.ListN.{length}
-use Rattle.cipher.specs.Field.{◌•◌, product_of, xtime}
+use Rattle.cipher.specs.Field.{◌•◌}
 use Rattle.cipher.specs.Cipher.{Bytes, four, xor_word, mix_byte, s_box}
 use Rattle.cipher.specs.KeyExpansion.{rot_word}
 use Rattle.cipher.specs.Packed.{bytes_of, share, IsTTable}
 use Rattle.cipher.proofs.Bounds.{s_box_byte}
+use Rattle.cipher.proofs.Inverse.{product_byte}
 use Rattle.cipher.proofs.Table.{every, table_of}
 use Rattle.cipher.proofs.Words.{four_equal}
 use Rattle.cipher.proofs.Xor.{xor_turn, xor_pairs}
@@ -31,31 +34,22 @@ number-bytes : (a b c d : ℕ) → a < 256 → b < 256 → c < 256 → d < 256 �
 number-bytes a b c d i j k l = four_equal (omega arith) (omega arith) (omega arith) (omega arith)
 
 -- each byte one place lower, and the lowest on top
-pub rotated : (p : ℕ) → p < 2 ^ 32 → bytes_of (p / 256 + p % 256 * 16777216) ≡ rot_word (bytes_of p)
-rotated p h =
-    let e : p / 256 + p % 256 * 16777216 ≡ number (p / 256 % 256) (p / 65536 % 256) (p / 16777216 % 256) (p % 256) = omega arith in
-    rw e (number-bytes _ _ _ _ (omega arith) (omega arith) (omega arith) (omega arith))
+turned : (p : ℕ) → p < 2 ^ 32 → rotate_right w32 p 8 ≡ number (p / 256 % 256) (p / 65536 % 256) (p / 16777216 % 256) (p % 256)
+turned p h =
+    let e : p * 2 ^ 24 % 2 ^ 32 ≡ p % 256 * 2 ^ 24 = omega arith in
+    let f : rotate_right w32 p 8 ≡ p % 256 * 2 ^ 24 + p / 256 = or_comm (p / 2 ^ 8) (p * 2 ^ 24 % 2 ^ 32) ∙ rw e (or_shifted (p % 256) 24 (p / 2 ^ 8) (omega arith)) in
+    omega arith
 
--- the products of MixColumns are bytes
-xtime-byte : (b : ℕ) → b < 256 → xtime b < 256
-unfolding xtime
-xtime-byte b h = xor_lt 8 (b * 2 % 256) (b / 128 * 0x1b) (omega arith) (omega arith)
-
-two_byte : (b : ℕ) → b < 256 → (2 • b) < 256
-unfolding ◌•◌ product_of
-two_byte b h = rw (xor_zero_r (xtime b)) (xtime-byte b h)
-
-three_byte : (b : ℕ) → b < 256 → (3 • b) < 256
-unfolding ◌•◌ product_of
-three_byte b h = rw (xor_zero_r (xtime b)) (xor_lt 8 b (xtime b) h (xtime-byte b h))
+pub rotated : (p : ℕ) → p < 2 ^ 32 → bytes_of (rotate_right w32 p 8) ≡ rot_word (bytes_of p)
+rotated p h = rw (turned p h) (number-bytes _ _ _ _ (omega arith) (omega arith) (omega arith) (omega arith))
 
 -- an entry of the T-table, as a number
 unfoldable pub entry_of : ℕ → ℕ
 entry_of s = number (2 • s) s s (3 • s)
 
 entry-bytes : (s : ℕ) → s < 256 → bytes_of (entry_of s) ≡ share s
-unfolding entry_of
-entry-bytes s h = number-bytes (2 • s) s s (3 • s) (two_byte s h) h h (three_byte s h)
+unfolding entry_of ◌•◌
+entry-bytes s h = number-bytes (2 • s) s s (3 • s) (product_byte 8 2 s h) h h (product_byte 8 3 s h)
 
 pub t_table_tested : (t : List ℕ) → length t ≡ 256 → T (every (λ x. entry_of (s_box x)) 0 t) → IsTTable t
 unfolding IsTTable

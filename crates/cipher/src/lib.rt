@@ -1,20 +1,20 @@
 // AES-128 of FIPS 197: the key expansion, and the encryption of one block, under one key schedule or under two.
 //
 // The state, four columns of four bytes, and the key schedule of 176 bytes pass by value through each round. To spare copies, the
-// functions inside a round are lent the schedule, and all are lent the tables. Numbers in brackets are sections of FIPS 197.
+// functions inside a round are lent the schedule. Numbers in brackets are sections of FIPS 197.
 #![tactic(auto)]
 
 mod sbox;
 mod ttable;
 
-ghost use Rattle.std.specs.Prelude.{◌≡◌, cond, ◌++◌, ◌+◌, ◌*◌, ◌<◌, ◌≤◌, length, take, drop};
+ghost use Rattle.std.specs.Prelude.{◌≡◌, cond, ◌-◌, ◌%◌, ◌<◌, ◌≤◌, eqb, take};
 ghost use Rattle.lists.specs.Bytes.{same_bytes};
-ghost use Rattle.cipher.specs.Cipher.{IsSBox, s_box, byte, four, word, xor_word, from_block, to_block, sub_bytes, shift_rows, mix_byte, mix_columns, add_round_key, rounds, cipher};
-ghost use Rattle.cipher.specs.KeyExpansion.{rot_word, sub_word, rcon, next_word, key_expansion};
-ghost use Rattle.cipher.specs.Packed.{bytes_of, share, IsTTable};
+ghost use Rattle.cipher.specs.Cipher.{four, column, word, xor_word, from_block, to_block, sub_bytes, shift_rows, mix_byte, mix_columns, add_round_key, rounds, cipher};
+ghost use Rattle.cipher.specs.KeyExpansion.{rot_word, sub_word, rcon, temp, key_expansion};
+ghost use Rattle.cipher.specs.Packed.{bytes_of};
 
-use sbox::s_box;
-use ttable::t_table;
+use sbox::sub_byte;
+use ttable::share_of;
 
 // Words
 
@@ -30,23 +30,10 @@ fn rot_word(w: [u8; 4]) -> [u8; 4]
     [w[1], w[2], w[3], w[0]]
 }
 
-fn sub_byte(t: &[u8; 256], x: u8) -> u8
-    requires { IsSBox t.now }
-    ensures { result ≡ s_box x }
-{
-    t[x as usize]
-}
-
-fn sub_word(t: &[u8; 256], w: [u8; 4]) -> [u8; 4]
-    requires { IsSBox t.now }
+fn sub_word(w: [u8; 4]) -> [u8; 4]
     ensures { result ≡ sub_word w }
 {
-    [
-        sub_byte(t, w[0]),
-        sub_byte(t, w[1]),
-        sub_byte(t, w[2]),
-        sub_byte(t, w[3]),
-    ]
+    w.map(sub_byte)
 }
 
 // Word i of a key schedule.
@@ -80,6 +67,14 @@ fn to_block(s: [[u8; 4]; 4]) -> [u8; 16]
     ]
 }
 
+// SubBytes (5.1.1)
+#[tactic(auto, using(crate::proofs::Words::columns_are))]
+fn sub_bytes(s: [[u8; 4]; 4]) -> [[u8; 4]; 4]
+    ensures { result ≡ sub_bytes s }
+{
+    s.map(sub_word)
+}
+
 // ShiftRows (5.1.2)
 fn shift_rows(s: [[u8; 4]; 4]) -> [[u8; 4]; 4]
     ensures { result ≡ shift_rows s }
@@ -94,161 +89,87 @@ fn shift_rows(s: [[u8; 4]; 4]) -> [[u8; 4]; 4]
 
 // SubBytes and MixColumns (5.1.3) of a column in one, on its four bytes in one u32, byte 0 the lowest.
 
-fn unpack(p: u32) -> [u8; 4]
-    ensures { result ≡ bytes_of p }
-{
-    [
-        (p % 256) as u8,
-        (p / 256 % 256) as u8,
-        (p / 65536 % 256) as u8,
-        (p / 16777216 % 256) as u8,
-    ]
-}
-
 // Byte r + 1 in the place of byte r.
+#[tactic(auto, using(crate::proofs::Packed::rotated))]
 fn rotate(p: u32) -> u32
     ensures { bytes_of result ≡ rot_word (bytes_of p) }
 {
-    p / 256 + p % 256 * 16777216
-}
-
-// What x, in row 0, adds to its column.
-fn share_of(t: &[u32; 256], x: u8) -> u32
-    requires { IsTTable t.now }
-    ensures { bytes_of result ≡ share (s_box x) }
-{
-    t[x as usize]
+    p.rotate_right(8)
 }
 
 // In row r a byte adds the same as in row 0, r places on; that is 4 - r places back, of which the inner rows, 2 and 1, share two.
-fn sub_mix_column(t: &[u32; 256], w: [u8; 4]) -> [u8; 4]
-    requires { IsTTable t.now }
+fn sub_mix_column(w: [u8; 4]) -> [u8; 4]
     ensures { result ≡ four (mix_byte (sub_word w)) }
 {
-    let outer = share_of(t, w[0]) ^ rotate(share_of(t, w[3]));
-    let inner = share_of(t, w[2]) ^ rotate(share_of(t, w[1]));
-    unpack(outer ^ rotate(rotate(inner)))
+    let outer = share_of(w[0]) ^ rotate(share_of(w[3]));
+    let inner = share_of(w[2]) ^ rotate(share_of(w[1]));
+    (outer ^ rotate(rotate(inner))).to_le_bytes()
 }
 
-fn sub_mix_columns(t: &[u32; 256], s: [[u8; 4]; 4]) -> [[u8; 4]; 4]
-    requires { IsTTable t.now }
+#[tactic(auto, using(crate::proofs::Words::columns_are))]
+fn sub_mix_columns(s: [[u8; 4]; 4]) -> [[u8; 4]; 4]
     ensures { result ≡ mix_columns (sub_bytes s) }
 {
-    [
-        sub_mix_column(t, s[0]),
-        sub_mix_column(t, s[1]),
-        sub_mix_column(t, s[2]),
-        sub_mix_column(t, s[3]),
-    ]
-}
-
-// SubBytes (5.1.1) alone, for the last round, from the same table: what x, in row 0, adds to row 1 is S-box(x).
-
-fn sub_byte_in(t: &[u32; 256], x: u8) -> u8
-    requires { IsTTable t.now }
-    ensures { result ≡ s_box x }
-{
-    let added = unpack(share_of(t, x));
-    added[1]
-}
-
-fn sub_word_in(t: &[u32; 256], w: [u8; 4]) -> [u8; 4]
-    requires { IsTTable t.now }
-    ensures { result ≡ sub_word w }
-{
-    [
-        sub_byte_in(t, w[0]),
-        sub_byte_in(t, w[1]),
-        sub_byte_in(t, w[2]),
-        sub_byte_in(t, w[3]),
-    ]
-}
-
-fn sub_bytes(t: &[u32; 256], s: [[u8; 4]; 4]) -> [[u8; 4]; 4]
-    requires { IsTTable t.now }
-    ensures { result ≡ sub_bytes s }
-{
-    [
-        sub_word_in(t, s[0]),
-        sub_word_in(t, s[1]),
-        sub_word_in(t, s[2]),
-        sub_word_in(t, s[3]),
-    ]
+    s.map(sub_mix_column)
 }
 
 // AddRoundKey (5.1.4)
-
-fn add_word(c: [u8; 4], w: &[u8; 176], i: usize) -> [u8; 4]
-    requires { i < 44 }
-    ensures { result ≡ xor_word c (word w.now i) }
-{
-    xor_word(c, word_at(w, i))
-}
-
+#[tactic(auto, unfolding(crate::specs::Cipher::add_round_key))]
 fn add_round_key(s: [[u8; 4]; 4], w: &[u8; 176], n: usize) -> [[u8; 4]; 4]
     requires { n ≤ 10 }
     ensures { result ≡ add_round_key w.now n s }
 {
     let i = n * 4;
     [
-        add_word(s[0], w, i),
-        add_word(s[1], w, i + 1),
-        add_word(s[2], w, i + 2),
-        add_word(s[3], w, i + 3),
+        xor_word(s[0], word_at(w, i)),
+        xor_word(s[1], word_at(w, i + 1)),
+        xor_word(s[2], word_at(w, i + 2)),
+        xor_word(s[3], word_at(w, i + 3)),
     ]
 }
 
 // Cipher (5.1)
 
 // Round n, from 1 to 9. ShiftRows comes first, since SubBytes is the same for every byte.
-fn round(s: [[u8; 4]; 4], round_keys: [u8; 176], t: &[u32; 256], n: usize) -> [[u8; 4]; 4]
-    requires { IsTTable t.now × (n ≤ 10) }
+fn round(s: [[u8; 4]; 4], round_keys: [u8; 176], n: usize) -> [[u8; 4]; 4]
+    requires { n ≤ 10 }
     ensures { result ≡ add_round_key round_keys n (mix_columns (shift_rows (sub_bytes s))) }
 {
-    add_round_key(sub_mix_columns(t, shift_rows(s)), &round_keys, n)
+    add_round_key(sub_mix_columns(shift_rows(s)), &round_keys, n)
 }
 
 // Rounds 1 to 9. No loop: where the number of a round is a constant, its round key is read in place and the schedule is not copied.
-fn nine_rounds(s: [[u8; 4]; 4], round_keys: [u8; 176], t: &[u32; 256]) -> [[u8; 4]; 4]
-    requires { IsTTable t.now }
+#[tactic(auto, unfolding(crate::specs::Cipher::rounds))]
+fn nine_rounds(s: [[u8; 4]; 4], round_keys: [u8; 176]) -> [[u8; 4]; 4]
     ensures { result ≡ rounds round_keys 9 s }
 {
-    let s1 = round(s, round_keys, t, 1);
-    let s2 = round(s1, round_keys, t, 2);
-    let s3 = round(s2, round_keys, t, 3);
-    let s4 = round(s3, round_keys, t, 4);
-    let s5 = round(s4, round_keys, t, 5);
-    let s6 = round(s5, round_keys, t, 6);
-    let s7 = round(s6, round_keys, t, 7);
-    let s8 = round(s7, round_keys, t, 8);
-    round(s8, round_keys, t, 9)
+    let s1 = round(s, round_keys, 1);
+    let s2 = round(s1, round_keys, 2);
+    let s3 = round(s2, round_keys, 3);
+    let s4 = round(s3, round_keys, 4);
+    let s5 = round(s4, round_keys, 5);
+    let s6 = round(s5, round_keys, 6);
+    let s7 = round(s6, round_keys, 7);
+    let s8 = round(s7, round_keys, 8);
+    round(s8, round_keys, 9)
 }
 
 // Round 10, which mixes no columns.
-fn last_round(s: [[u8; 4]; 4], round_keys: [u8; 176], t: &[u32; 256]) -> [[u8; 4]; 4]
-    requires { IsTTable t.now }
+fn last_round(s: [[u8; 4]; 4], round_keys: [u8; 176]) -> [[u8; 4]; 4]
     ensures { result ≡ add_round_key round_keys 10 (shift_rows (sub_bytes s)) }
 {
-    add_round_key(shift_rows(sub_bytes(t, s)), &round_keys, 10)
-}
-
-// The T-table is lent, so that two blocks can share one.
-fn encrypt_with(t: &[u32; 256], round_keys: [u8; 176], block: [u8; 16]) -> [u8; 16]
-    requires { IsTTable t.now }
-    ensures { result ≡ cipher round_keys block }
-{
-    let s = add_round_key(from_block(block), &round_keys, 0);
-    let s9 = nine_rounds(s, round_keys, t);
-    to_block(last_round(s9, round_keys, t))
+    add_round_key(shift_rows(sub_bytes(s)), &round_keys, 10)
 }
 
 // The encryption of one block under a key schedule: round key n is its bytes 16 n to 16 n + 15, as `expand_key` lays them out. Any other
 // 176 bytes are taken as a schedule too.
+#[tactic(auto, unfolding(crate::specs::Cipher::cipher))]
 pub fn encrypt(round_keys: [u8; 176], block: [u8; 16]) -> [u8; 16]
     ensures { result ≡ cipher round_keys block }
 {
-    let t = t_table();
-    encrypt_with(&t, round_keys, block)
+    let s = add_round_key(from_block(block), &round_keys, 0);
+    let s9 = nine_rounds(s, round_keys);
+    to_block(last_round(s9, round_keys))
 }
 
 // The first half of a block
@@ -256,23 +177,19 @@ pub fn encrypt(round_keys: [u8; 176], block: [u8; 16]) -> [u8; 16]
 pub fn first_half(block: [u8; 16]) -> [u8; 8]
     ensures { result ≡ take 8 block }
 {
-    [
-        block[0], block[1], block[2], block[3], block[4], block[5], block[6], block[7],
-    ]
+    *block.first_chunk().unwrap()
 }
 
 // Whether these bytes are that half. Every byte is compared, with no early exit.
 pub fn is_half(given: &[u8], half: [u8; 8]) -> bool
     ensures { result ≡ same_bytes given.now half }
 {
-    if given.len() != 8 {
+    if given.len() != half.len() {
         return false;
     }
     let mut same = true;
-    for i in 0..8 {
-        if given[i] != half[i] {
-            same = false;
-        }
+    for (a, b) in given.iter().zip(half.iter()) {
+        same &= a == b;
     }
     same
 }
@@ -286,7 +203,7 @@ pub struct Encrypted {
     pub second: [u8; 16],
 }
 
-// Encrypts a block under one key schedule and, where the first half of that is not `given`, under another, both with one T-table.
+// Encrypts a block under one key schedule and, where the first half of that is not `given`, under another.
 pub fn encrypt_until(
     given: &[u8],
     first: [u8; 176],
@@ -295,23 +212,21 @@ pub fn encrypt_until(
 ) -> Encrypted
     ensures { result ≡ record { first = cipher «first» block; second = cond (same_bytes given.now (take 8 (cipher «first» block))) (cipher «first» block) (cipher «second» block) } }
 {
-    let t = t_table();
-    let one = encrypt_with(&t, first, block);
-    if is_half(given, first_half(one)) {
-        return Encrypted {
-            first: one,
-            second: one,
-        };
-    }
+    let one = encrypt(first, block);
+    let two = if is_half(given, first_half(one)) {
+        one
+    } else {
+        encrypt(second, block)
+    };
     Encrypted {
         first: one,
-        second: encrypt_with(&t, second, block),
+        second: two,
     }
 }
 
 // KeyExpansion (5.2)
 
-const RCON: [u8; 10] = [0x01, 0x02, 0x04, 0x08, 0x10, 0x20, 0x40, 0x80, 0x1b, 0x36];
+static RCON: [u8; 10] = [0x01, 0x02, 0x04, 0x08, 0x10, 0x20, 0x40, 0x80, 0x1b, 0x36];
 
 fn round_constant(i: usize) -> [u8; 4]
     requires { (1 ≤ i) × (i ≤ 10) }
@@ -321,54 +236,37 @@ fn round_constant(i: usize) -> [u8; 4]
 }
 
 // SubWord(RotWord(w)), with Rcon[i] added.
-fn key_core(t: &[u8; 256], w: [u8; 4], i: usize) -> [u8; 4]
-    requires { IsSBox t.now × (1 ≤ i) × (i ≤ 10) }
+fn key_core(w: [u8; 4], i: usize) -> [u8; 4]
+    requires { (1 ≤ i) × (i ≤ 10) }
     ensures { result ≡ xor_word (sub_word (rot_word w)) (rcon i) }
 {
-    xor_word(sub_word(t, rot_word(w)), round_constant(i))
+    xor_word(sub_word(rot_word(w)), round_constant(i))
 }
 
-fn next_word<'a>(t: &'a [u8; 256], w: &'a [u8; 176], i: usize) -> [u8; 4]
-    requires { IsSBox t.now × (4 ≤ i) × (i < 44) }
-    ensures { result ≡ next_word w.now i }
+// Word i, from the words before it.
+#[tactic(auto, unfolding(crate::specs::KeyExpansion::temp))]
+fn next_word(w: &[[u8; 4]; 44], i: usize) -> [u8; 4]
+    requires { (4 ≤ i) × (i < 44) }
+    ensures { result ≡ xor_word (column w.now (i - 4)) (temp (eqb (i % 4) 0) (column w.now (i - 1)) i) }
 {
-    let before = word_at(w, i - 1);
-    if i % 4 == 0 {
-        xor_word(word_at(w, i - 4), key_core(t, before, i / 4))
+    let before = w[i - 1];
+    let temp = if i % 4 == 0 {
+        key_core(before, i / 4)
     } else {
-        xor_word(word_at(w, i - 4), before)
-    }
-}
-
-// Stores word i.
-fn put_word(w: &mut [u8; 176], i: usize, x: [u8; 4])
-    requires { (i < 44) × (length w.old ≡ 176) }
-    ensures { w.new ≡ take (i * 4) w.old ++ four (byte x) ++ drop (i * 4 + 4) w.old }
-{
-    let at = i * 4;
-    w[at] = x[0];
-    w[at + 1] = x[1];
-    w[at + 2] = x[2];
-    w[at + 3] = x[3];
+        before
+    };
+    xor_word(w[i - 4], temp)
 }
 
 // The key schedule of a key: 44 words, four for the first AddRoundKey and four for each round.
 pub fn expand_key(key: [u8; 16]) -> [u8; 176]
     ensures { result ≡ key_expansion key }
 {
-    let t = s_box();
-    let mut w = [0u8; 176];
-    let mut k: usize = 0;
-    while k < 16 {
-        w[k] = key[k];
-        k += 1;
+    let mut w = [[0u8; 4]; 44];
+    w[..4].copy_from_slice(key.as_chunks().0);
+    for i in 4..44 {
+        let word = next_word(&w, i);
+        w[i] = word;
     }
-    let mut n: usize = 0;
-    while n < 40 {
-        let i = n + 4;
-        let x = next_word(&t, &w, i);
-        put_word(&mut w, i, x);
-        n += 1;
-    }
-    w
+    *w.as_flattened().first_chunk().unwrap()
 }

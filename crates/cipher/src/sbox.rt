@@ -1,7 +1,8 @@
 // The S-box of FIPS 197, figure 7, as a table: entry x stands in row x / 16 and column x % 16 of the figure.
-ghost use Rattle.cipher.specs.Cipher.{IsSBox};
+ghost use Rattle.std.specs.Prelude.{◌≡◌};
+ghost use Rattle.cipher.specs.Cipher.{IsSBox, s_box};
 
-const SBOX: [u8; 256] = [
+static SBOX: [u8; 256] = [
     0x63, 0x7c, 0x77, 0x7b, 0xf2, 0x6b, 0x6f, 0xc5, 0x30, 0x01, 0x67, 0x2b, 0xfe, 0xd7, 0xab, 0x76,
     0xca, 0x82, 0xc9, 0x7d, 0xfa, 0x59, 0x47, 0xf0, 0xad, 0xd4, 0xa2, 0xaf, 0x9c, 0xa4, 0x72, 0xc0,
     0xb7, 0xfd, 0x93, 0x26, 0x36, 0x3f, 0xf7, 0xcc, 0x34, 0xa5, 0xe5, 0xf1, 0x71, 0xd8, 0x31, 0x15,
@@ -20,9 +21,17 @@ const SBOX: [u8; 256] = [
     0x8c, 0xa1, 0x89, 0x0d, 0xbf, 0xe6, 0x42, 0x68, 0x41, 0x99, 0x2d, 0x0f, 0xb0, 0x54, 0xbb, 0x16,
 ];
 
-// The table, to be made once a call and lent: each function that reads the constant has its own copy of it.
-pub fn s_box() -> [u8; 256]
-    ensures { IsSBox result }
+// The table, which each look-up reads where it lies.
+pub fn s_box() -> &'static [u8; 256]
+    ensures { IsSBox result.now }
 {
-    SBOX
+    &SBOX
+}
+
+// The S-box at a byte.
+#[tactic(auto, unfolding(crate::specs::Cipher::IsSBox))]
+pub fn sub_byte(x: u8) -> u8
+    ensures { result ≡ s_box x }
+{
+    s_box()[x as usize]
 }

@@ -1,8 +1,10 @@
 // The T-table: entry x has what the byte S-box(x) = s in row 0 adds to its column in MixColumns, the bytes 2 s, s, s and 3 s, the first the
 // lowest.
-ghost use Rattle.cipher.specs.Packed.{IsTTable};
+ghost use Rattle.std.specs.Prelude.{◌≡◌};
+ghost use Rattle.cipher.specs.Cipher.{s_box};
+ghost use Rattle.cipher.specs.Packed.{bytes_of, share, IsTTable};
 
-const T_TABLE: [u32; 256] = [
+static T_TABLE: [u32; 256] = [
     0xa56363c6, 0x847c7cf8, 0x997777ee, 0x8d7b7bf6, 0x0df2f2ff, 0xbd6b6bd6, 0xb16f6fde, 0x54c5c591,
     0x50303060, 0x03010102, 0xa96767ce, 0x7d2b2b56, 0x19fefee7, 0x62d7d7b5, 0xe6abab4d, 0x9a7676ec,
     0x45caca8f, 0x9d82821f, 0x40c9c989, 0x877d7dfa, 0x15fafaef, 0xeb5959b2, 0xc947478e, 0x0bf0f0fb,
@@ -37,8 +39,17 @@ const T_TABLE: [u32; 256] = [
     0xc3414182, 0xb0999929, 0x772d2d5a, 0x110f0f1e, 0xcbb0b07b, 0xfc5454a8, 0xd6bbbb6d, 0x3a16162c,
 ];
 
-pub fn t_table() -> [u32; 256]
-    ensures { IsTTable result }
+// The table, which each look-up reads where it lies.
+pub fn t_table() -> &'static [u32; 256]
+    ensures { IsTTable result.now }
 {
-    T_TABLE
+    &T_TABLE
+}
+
+// What x, in row 0, adds to its column.
+#[tactic(auto, unfolding(crate::specs::Packed::IsTTable))]
+pub fn share_of(x: u8) -> u32
+    ensures { bytes_of result ≡ share (s_box x) }
+{
+    t_table()[x as usize]
 }

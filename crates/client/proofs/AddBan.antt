@@ -1,18 +1,23 @@
 -- When a ban is live; no two live bans have one name, whatever ban is set. Assumes nothing.
 use Prim.Native.Nat.{ℕ, zero, suc, ◌+◌, ◌≤◌, ◌<◌}
 use mathlib.Core.Path.{◌≡◌, refl, sym, ap, ◌∙◌}
-use mathlib.Core.Bool.{Bool, true, false, ◌&&◌}
+use mathlib.Core.Bool.{Bool, true, false, cond, ◌&&◌}
 use mathlib.Core.List.{List, [], ◌∷◌}
 use native.Mathlib.Omega.{arith}
+use Rattle.std.specs.Prelude.{Some, None, unwrap_or}
+use Rattle.std.specs.Option.{option_or}
+use Rattle.std.specs.List.{position_or_len}
+use Rattle.std.proofs.lemmas.List.Recursion.{is_position_or_len}
+use Rattle.std.proofs.lemmas.List.Sums.{passes_at_first}
 use lib.Dec.{ltb, eqb}
 use lib.ListN.{length, set, replicate, length-set, length-replicate}
 use borrow.Author.Tests.{ltb-true, ltb-false, lt-ltb, le-ltb, eqb-true, eq-eqb}
-use Rattle.lists.proofs.Bools.{and_true, chosen}
+use Rattle.lists.proofs.Bools.{and_true}
 use Rattle.lists.specs.Bytes.{same_bytes}
-use Rattle.lists.specs.Lists.{bit, sum, tally}
+use Rattle.lists.specs.Lists.{bit, sum, tally, first_index}
 use Rattle.lists.proofs.SameBytes.{same_bytes_eq, same_bytes_refl}
-use Rattle.lists.proofs.Sums.{bit-most, sum_le, sum_zero, sum-set, sum-only, first_passes, none_passes}
-use Rattle.client.specs.Bans.{zero_ban, is_ban, ban_place, is_banned, place_for, new_ban, add_ban}
+use Rattle.lists.proofs.Sums.{bit-most, sum_le, sum_zero, sum-set, sum-only, none_passes}
+use Rattle.client.specs.Bans.{zero_ban, is_ban, free_place, ends_first, place_for, new_ban, add_ban}
 use Rattle.client.specs.declared.bans.Ban.{Ban}
 
 -- A live ban of a name has that name, and ends later
@@ -34,6 +39,10 @@ set-most : {A : Type 0} (w : A → ℕ) (xs : List A) (i : ℕ) (y : A) → sum 
 set-most w [] i y = omega arith
 set-most w (x ∷ xs) zero y = omega arith
 set-most w (x ∷ xs) (suc i) y = omega (arith, set-most w xs i y)
+
+-- the first place that passes, by both words for it
+pub first_is_position : {A : Type 0} (p : A → Bool) (xs : List A) → first_index p xs ≡ position_or_len p xs
+first_is_position p xs = is_position_or_len (first_index p) p refl (λ x xs. ap (cond (p x) 0) (omega arith)) xs
 
 -- 32 places, and from a time on no two live bans of one name
 pub record Alone (clock : ℕ) (bans : List Ban) : Type 0 where
@@ -75,23 +84,27 @@ module _ (clock t₀ : ℕ) (bans : List Ban) (after : clock ≤ t₀) (a : Alon
         go false q named = omega arith
 
     -- of the ban's own name it is the only one: it takes the place of the one there is, or there is none
-    moved : is_banned t₀ b₀ port₀ bans ≡ true → tally then (set bans (ban_place t₀ b₀ port₀ bans) new) ≤ 1
-    moved q =
-        let p = ban_place t₀ b₀ port₀ bans in
+    moved : position_or_len now bans < length bans → tally then (set bans (position_or_len now bans) new) ≤ 1
+    moved fits =
+        let p = position_or_len now bans in
         let most = a.single t₀ after b₀ port₀ in
-        let fits : p < length bans = omega (arith, ltb-true p 32 q, a.places) in
-        let live = first_passes now bans zero_ban fits in
+        let live = passes_at_first now bans zero_ban fits in
         let only = sum-only now (λ x. bit (then x)) (λ x. bit (now x)) (λ x e. omega (arith, fewer x, ap bit e)) bans p zero_ban most fits live in
         omega (arith, only, ap bit live, most, sum-set (λ x. bit (then x)) bans p new zero_ban fits, bit-most (then new))
 
-    added : (i : ℕ) → is_banned t₀ b₀ port₀ bans ≡ false → tally then (set bans i new) ≤ 1
+    added : (i : ℕ) → length bans ≤ position_or_len now bans → tally then (set bans i new) ≤ 1
     added i q =
-        let none = none_passes now bans (omega (arith, ltb-false (ban_place t₀ b₀ port₀ bans) 32 q, a.places)) in
+        let none = none_passes now bans (omega (arith, q, first_is_position now bans)) in
         let fall = sum_le (λ x. bit (then x)) (λ x. bit (now x)) fewer bans in
         omega (arith, none, fall, set-most (λ x. bit (then x)) bans i new, bit-most (then new))
 
     own : tally then (set bans (place_for t₀ b₀ port₀ bans) new) ≤ 1
-    own = chosen (λ i. tally then (set bans i new) ≤ 1) (is_banned t₀ b₀ port₀ bans) _ _ moved (added _)
+    own = go (ltb (position_or_len now bans) (length bans)) refl
+      where
+        go : (b : Bool) → ltb (position_or_len now bans) (length bans) ≡ b
+            → tally then (set bans (unwrap_or (option_or (cond b (Some (position_or_len now bans)) None) (free_place t₀ bans)) (ends_first bans)) new) ≤ 1
+        go true q = moved (ltb-true _ _ q)
+        go false q = added _ (ltb-false _ _ q)
 
   pub banned-alone : Alone t₀ (add_ban t₀ b₀ port₀ bans)
   unfolding add_ban is_ban

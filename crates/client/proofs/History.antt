@@ -1,4 +1,5 @@
 -- After any calls the memory holds what a record of them has, no ban stands twice, and the clock never falls. Assumes nothing.
+use Rattle.std.specs.Prelude.{Err, Ok, None, Option, Some}
 use Prim.Native.Nat.{ℕ, ◌≤◌}
 use mathlib.Core.Path.{◌≡◌, refl, ap, ◌∙◌}
 use mathlib.Core.Bool.{Bool, true, false, cond}
@@ -7,13 +8,9 @@ use native.Mathlib.Omega.{arith}
 use lib.Dec.{ltb, eqb}
 use lib.ListN.{length}
 use borrow.Author.Tests.{eqb-true, ne_eqb, ltb-false, not-false}
-use Rattle.segment.specs.Refusal.{number_of, refusal}
+use Rattle.segment.specs.Refusal.{number_of, refusal, Check, all_clear}
 use Rattle.segment.specs.declared.options.Codings.{Codings}
 use Rattle.segment.specs.declared.refusal.Refusal.{Refusal}
-use Rattle.segment.specs.declared.refusal.Check.{Check}
-use Rattle.segment.specs.declared.refusal.Check.TheVariants.{Clear, Refused}
-use Rattle.segment.specs.declared.options.Mss.{Mss}
-use Rattle.segment.specs.declared.options.Mss.TheVariants.{NotGiven, Given}
 use Rattle.segment.proofs.NumberOf.{positive}
 use Rattle.lists.proofs.Bools.{or_false, chosen}
 use Rattle.endpoint.specs.Address.{size, block}
@@ -49,8 +46,8 @@ unfolding step call_check
 step-clock m c = go (call_check m c) refl
   where
     go : (k : Check) → refusal (checks m c) ≡ k → m.clock ≤ (outcome_of m c k).memory.clock
-    go Clear e = done-clock m c (every-check (checks m c) e)
-    go (Refused r) e = omega arith
+    go (Ok _) e = done-clock m c (every-check (checks m c) e)
+    go (Err r) e = omega arith
 
 run-clock : (m : Memory) (calls : List Call) → m.clock ≤ (run m calls).clock
 unfolding run
@@ -69,16 +66,16 @@ stores_refused s (answer t own server a seg g) r = rw (ne_eqb (number_of r) 0 (p
 stores_refused s (failed t server port) r = refl
 
 -- the record and the cache agree on what is a store
-same_store : (c : List ℕ) (mss : Mss) → is_store c mss ≡ brings c mss
-same_store [] NotGiven = refl
-same_store [] (Given v) = refl
+same_store : (c : List ℕ) (mss : Option ℕ) → is_store c mss ≡ brings c mss
+same_store [] None = refl
+same_store [] (Some v) = refl
 same_store (x ∷ c) mss =
     let some : eqb (length (x ∷ c)) 0 ≡ false = ne_eqb (length (x ∷ c)) 0 (λ e. omega arith) in
     rw some
 
 -- What holds of a memory and the record of its calls
 
-abbrev Stored : Family → List Store → List Entry → Type 0
+abbrev Stored : Family → List Store → List (Option Entry) → Type 0
 Stored f s es = All (Kept f) (recalled s) × Filled (recalled s) es
 
 record Right (f : Family) (m : Memory) (s : List Store) : Type 0 where
@@ -87,7 +84,7 @@ record Right (f : Family) (m : Memory) (s : List Store) : Type 0 where
   alone : Alone m.clock m.bans
 
 module _ (f : Family) where
-  store : (g : Codings) (s : List Store) (es : List Entry) (server seg : List ℕ) → length server ≡ size f → Stored f s es
+  store : (g : Codings) (s : List Store) (es : List (Option Entry)) (server seg : List ℕ) → length server ≡ size f → Stored f s es
       → Stored f (stores_with s server (cookie_in g seg) (mss_in g seg)) (cache_after (block server) (cookie_in g seg) (mss_in g seg) es)
   store g s es server seg l h = rw (same_store (cookie_in g seg) (mss_in g seg)) (go (brings (cookie_in g seg) (mss_in g seg)))
     where
@@ -121,8 +118,8 @@ module _ (f : Family) where
   right-step m c s r = go (call_check m c) refl
     where
       go : (k : Check) → refusal (checks m c) ≡ k → Right f (outcome_of m c k).memory (stores_after s c (number_of_event (outcome_of m c k).event))
-      go Clear e = right-done m c s (every-check (checks m c) e) r
-      go (Refused q) e = rw (stores_refused s c q) r
+      go (Ok _) e = right-done m c s (every-check (checks m c) e) r
+      go (Err q) e = rw (stores_refused s c q) r
 
   right-run : (m : Memory) (s : List Store) (calls : List Call) → Right f m s → Right f (run m calls) (stores_of s (numbered m calls))
   unfolding run numbered stores_of
@@ -134,12 +131,12 @@ unfolding start_of distinct
 right-start n = go (refusal (start_checks n))
   where
     go : (k : Check) → Right (started_by n k).memory.family (started_by n k).memory []
-    go Clear = record { family = refl; stored = (tt, blank_filled 32); alone = blank-alone }
-    go (Refused r) = record { family = refl; stored = (tt, blank_filled 32); alone = blank-alone }
+    go (Ok _) = record { family = refl; stored = (tt, blank_filled 32); alone = blank-alone }
+    go (Err r) = record { family = refl; stored = (tt, blank_filled 32); alone = blank-alone }
 
 -- The theorem
 
-pub remembers : (n : ℕ) → (start_of n).check ≡ Clear → (calls : List Call) → Remembers n calls
+pub remembers : (n : ℕ) → (start_of n).check ≡ all_clear → (calls : List Call) → Remembers n calls
 remembers n done calls =
     let f = (started n calls).family in
     let es = (memory_after n calls).cache in
@@ -155,7 +152,7 @@ remembers n done calls =
           let last = found-recalled server s in
           let cookie = cookie-found f server l (recalled s) es kept filled in
           let entry = entry_found f server l (recalled s) es kept filled in
-          (cookie ∙ ap (λ (x : Store). x.cookie) last, entry.2 ∙ ap (λ (x : Store). x.mss) last);
+          (cookie ∙ ap (λ (x : Store). x.cookie) last, entry.1 ∙ ap (λ (x : Store). x.mss) last);
       once = rw same (recent-once s);
       alone = r.alone.single;
       clock = more-clock (started n calls) calls;

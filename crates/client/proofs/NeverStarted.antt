@@ -1,4 +1,5 @@
 -- A memory that was never started, a start that is refused, and calls that are refused. Assumes nothing.
+use Rattle.std.specs.Prelude.{Err, Ok}
 use Prim.Native.Nat.{ℕ}
 use mathlib.Core.Path.{◌≡◌, refl, sym, ap, ◌∙◌}
 use mathlib.Core.Bool.{true, false}
@@ -8,8 +9,7 @@ use Rattle.segment.specs.Remarks.{no_remarks}
 use Rattle.segment.specs.Refusal.{applies, refusal}
 use Rattle.segment.specs.declared.refusal.Refusal.{Refusal}
 use Rattle.segment.specs.declared.refusal.Refusal.TheVariants.{NotStarted, CutRecord, BadCapture}
-use Rattle.segment.specs.declared.refusal.Check.{Check}
-use Rattle.segment.specs.declared.refusal.Check.TheVariants.{Clear, Refused}
+use Rattle.segment.specs.Refusal.{Check}
 use Rattle.segment.proofs.NumberOf.{positive}
 use Rattle.client.specs.Call.{Call, connect, answer, failed, number_of_event}
 use Rattle.client.specs.Refusals.{checks, call_check}
@@ -38,13 +38,13 @@ never_started_lem m c e =
     (rw (none.0, none.1, first), rw (none.0, none.1, first))
 
 -- and such is the memory of a start that is refused
-pub refused_start : (n : ℕ) (r : Refusal) → (start_of n).check ≡ Refused r → (start_of n).memory.started ≡ false
+pub refused_start : (n : ℕ) (r : Refusal) → (start_of n).check ≡ Err r → (start_of n).memory.started ≡ false
 unfolding start_of
 refused_start n r e = go (refusal (start_checks n)) e
   where
-    go : (c : Check) → (started_by n c).check ≡ Refused r → (started_by n c).memory.started ≡ false
-    go Clear q = absurd (let z : ◌≡◌ {A = ℕ} 0 1 = cc in omega arith)
-    go (Refused s) q = refl
+    go : (c : Check) → (started_by n c).check ≡ Err r → (started_by n c).memory.started ≡ false
+    go (Ok _) q = absurd (let z : ◌≡◌ {A = ℕ} 0 1 = cc in omega arith)
+    go (Err s) q = refl
 
 -- a call that is done returns 0
 done-number : (m : Memory) (c : Call) → number_of_event (done_event m c) ≡ 0
@@ -59,5 +59,5 @@ unfolding step output_of
 refused_same m c r e = go (call_check m c) e
   where
     go : (k : Check) → (outcome_of m c k).event ≡ events.Refused r → ((outcome_of m c k).memory ≡ m) × ((outcome_of m c k).written ≡ 0) × ((outcome_of m c k).remarks ≡ no_remarks) × (output_if m c k ≡ [])
-    go Clear q = absurd (positive r (ap number_of_event (sym q) ∙ done-number m c))
-    go (Refused s) q = (refl, refl, refl, refl)
+    go (Ok _) q = absurd (positive r (ap number_of_event (sym q) ∙ done-number m c))
+    go (Err s) q = (refl, refl, refl, refl)

@@ -1,4 +1,6 @@
 -- An opening that is not refused can be written, and how many bytes it has. Assumes nothing.
+use Rattle.std.specs.Prelude.{Option}
+use Rattle.segment.specs.Refusal.{all_clear}
 use Prim.Native.Nat.{ℕ, ◌+◌}
 use mathlib.Core.Path.{◌≡◌, ap, ◌∙◌}
 use mathlib.Core.Bool.{Bool, true, not}
@@ -9,10 +11,9 @@ use lib.Seq.{length-take-le}
 use borrow.Author.Tests.{ltb-false, not-false}
 use Rattle.segment.specs.declared.options.Coding.TheVariants.{New}
 use Rattle.segment.specs.Write.{option_allowed, option_bytes, can_write, opening_fields}
-use Rattle.segment.specs.declared.refusal.Check.TheVariants.{Clear}
 use Rattle.segment.proofs.Exchange.{opening_can, opening-length}
 use Rattle.endpoint.proofs.Blocks.{one_family_lem}
-use Rattle.client.specs.Cache.{cookie_length, cookie_of}
+use Rattle.client.specs.Cache.{stored_cookie, cookie_length, cookie_of}
 use Rattle.client.specs.Call.{connect, count_of}
 use Rattle.client.specs.Refusals.{call_check}
 use Rattle.client.specs.Step.{sent_with, opening_for, banned_for, stored_for, step}
@@ -25,25 +26,25 @@ use Rattle.client.proofs.After.{cookie-most, length_allowed, sent-most}
 use Rattle.client.proofs.Answer.{clear-passed}
 
 -- a stored cookie may stand in a Fast Open option
-cookie_allowed : (fast : Bool) (e : Entry) → length e.cookie ≡ 16 → option_allowed fast (length (cookie_of e)) ≡ true
+cookie_allowed : (fast : Bool) (e : Option Entry) → length (stored_cookie e).bytes ≡ 16 → option_allowed fast (length (cookie_of e)) ≡ true
 cookie_allowed fast e h =
-    rw (length-take-le (cookie_length e) e.cookie (omega (arith, cookie-most e))) (length_allowed fast e)
+    rw (length-take-le (cookie_length e) (stored_cookie e).bytes (omega (arith, cookie-most e))) (length_allowed fast e)
 
 module _ (m : Memory) (t : ℕ) (own server : List ℕ) (o : ActiveOpen) (offered : List ℕ) (out_len : ℕ) where
   abbrev banned : Bool
   banned = banned_for m t server o
 
-  abbrev entry : Entry
+  abbrev entry : Option Entry
   entry = stored_for m server
 
   abbrev sent : ℕ
   sent = sent_with m.family banned entry (length offered)
 
   -- the count that is told is that of the data
-  pub sent_told : call_check m (connect t own server o offered out_len) ≡ Clear → count_of (step m (connect t own server o offered out_len)).event ≡ sent
+  pub sent_told : call_check m (connect t own server o offered out_len) ≡ all_clear → count_of (step m (connect t own server o offered out_len)).event ≡ sent
   sent_told clear = ap (λ (x : Outcome). count_of x.event) (step-done m (connect t own server o offered out_len) clear)
 
-  module _ (h : length entry.cookie ≡ 16) (clear : call_check m (connect t own server o offered out_len) ≡ Clear) where
+  module _ (h : length (stored_cookie entry).bytes ≡ 16) (clear : call_check m (connect t own server o offered out_len) ≡ all_clear) where
     data_length : length (take sent offered) ≡ sent
     data_length = length-take-le sent offered (sent-most m.family banned entry (length offered)).0
 

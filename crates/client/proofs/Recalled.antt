@@ -1,4 +1,7 @@
 -- The record of the calls: a recent address stands once, and what one more store makes of what is recalled. Assumes nothing.
+use Rattle.std.specs.Prelude.{None, Option, Some, is_some}
+use Rattle.std.specs.Option.{option_or}
+use Rattle.std.proofs.lemmas.List.{take-map}
 use Prim.Native.Nat.{ℕ, zero, suc}
 use mathlib.Core.Path.{◌≡◌, refl, sym, ap, ap₂, ◌∙◌, subst}
 use mathlib.Core.Bool.{Bool, true, false, cond, not, ◌||◌, true≢false, or-true}
@@ -7,14 +10,10 @@ use native.Mathlib.Omega.{arith}
 use lib.Dec.{eqb}
 use lib.ListN.{length, take}
 use lib.Seq.{take-take}
-use Rattle.segment.specs.Options.{first_mss}
-use Rattle.segment.specs.declared.options.Mss.{Mss}
-use Rattle.segment.specs.declared.options.Mss.TheVariants.{NotGiven, Given}
 use Rattle.lists.proofs.Bools.{or_false, chosen}
 use Rattle.lists.specs.Bytes.{same_bytes}
 use Rattle.lists.specs.Lists.{drop_first}
 use Rattle.lists.proofs.SameBytes.{same_bytes_eq, same_bytes_refl}
-use Rattle.client.specs.Step.{is_given}
 use Rattle.client.specs.History.{Store, member, without, distinct, recent, last_cookie, last_mss, recalled, Once}
 
 -- Addresses that stand once
@@ -90,11 +89,6 @@ drop-take {A} p (suc n) (x ∷ l) = go (p x) (drop-take p n l)
     go true e = take-take (suc n) (suc n) l (omega arith)
     go false e = ap (λ (z : List A). x ∷ z) e
 
-map-take : {A B : Type 0} (f : A → B) (n : ℕ) (l : List A) → map f (take n l) ≡ take n (map f l)
-map-take f zero l = refl
-map-take f (suc n) [] = refl
-map-take f (suc n) (x ∷ l) = ap (λ z. f x ∷ z) (map-take f n l)
-
 map-drop : {A B : Type 0} (f : A → B) (p : B → Bool) (l : List A) → map f (drop_first (λ x. p (f x)) l) ≡ drop_first p (map f l)
 map-drop f p [] = refl
 map-drop f p (x ∷ l) = go (p (f x)) (map-drop f p l)
@@ -117,7 +111,7 @@ abbrev pub last : List ℕ → List Store → Store
 last a s = record { address = a; cookie = last_cookie a s; mss = last_mss a s }
 
 abbrev nothing_for : List ℕ → Store
-nothing_for a = record { address = a; cookie = []; mss = NotGiven }
+nothing_for a = record { address = a; cookie = []; mss = None }
 
 -- what a list of stores has for it: its first
 abbrev pub found_for : List ℕ → List Store → Store
@@ -154,7 +148,7 @@ joined x y =
     record {
       address = x.address;
       cookie = cond (eqb (length x.cookie) 0) y.cookie x.cookie;
-      mss = first_mss x.mss y.mss;
+      mss = option_or x.mss y.mss;
     }
 
 -- the store of an address goes to the front, over what was there for it, and the others stay in their order
@@ -172,9 +166,9 @@ last-own x s = rw (same_bytes_refl x.address) (λ i. record { address = x.addres
     cookies true = refl
     cookies false = refl
 
-    sizes : (v : Mss) → cond (is_given v) v (last_mss x.address s) ≡ first_mss v (last_mss x.address s)
-    sizes NotGiven = refl
-    sizes (Given n) = refl
+    sizes : (v : Option ℕ) → cond (is_some v) v (last_mss x.address s) ≡ option_or v (last_mss x.address s)
+    sizes None = refl
+    sizes (Some n) = refl
 
 last_other : (b : List ℕ) (x : Store) (s : List Store) → member b (recent (x ∷ s)) ≡ true → same_bytes x.address b ≡ false → last b (x ∷ s) ≡ last b s
 unfolding last_cookie last_mss
@@ -184,7 +178,7 @@ others-recalled : (a : List ℕ) (s : List Store) (n : ℕ) (d : List (List ℕ)
     → map (λ b. last b s) (take n (without a d)) ≡ take n (others a (map (λ b. last b s) (take (suc n) d)))
 others-recalled a s n d h =
     rw (sym (once-drop a d h), sym (drop-take (λ b. same_bytes b a) n d))
-    (map-take (λ b. last b s) n _ ∙ ap (take n) (map-drop (λ b. last b s) (λ y. same_bytes y.address a) (take (suc n) d)))
+    (sym (take-map (λ b. last b s) n _) ∙ ap (take n) (map-drop (λ b. last b s) (λ y. same_bytes y.address a) (take (suc n) d)))
 
 unlike : (a b : List ℕ) (l : List (List ℕ)) → member a l ≡ false → member b l ≡ true → same_bytes a b ≡ false
 unlike a b l n e = go (same_bytes a b) refl

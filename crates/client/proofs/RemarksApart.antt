@@ -1,4 +1,5 @@
 -- What an answer comes to does not depend on what is remarked on its options. Assumes nothing.
+use Rattle.std.specs.Prelude.{Err, Ok}
 use Prim.Native.Nat.{ℕ}
 use mathlib.Core.Path.{◌≡◌, refl, ap, ap₂, ◌∙◌}
 use mathlib.Core.Bool.{Bool, not}
@@ -8,8 +9,7 @@ use Rattle.segment.specs.Header.{malformed, fields_of}
 use Rattle.segment.specs.Checksum.{checksum_right}
 use Rattle.segment.specs.declared.header.Header.{Header}
 use Rattle.segment.specs.declared.refusal.Refusal.TheVariants.{Format, Checksum, Port}
-use Rattle.segment.specs.declared.refusal.Check.{Check}
-use Rattle.segment.specs.declared.refusal.Check.TheVariants.{Clear, Refused}
+use Rattle.segment.specs.Refusal.{Check}
 use Rattle.segment.specs.declared.options.Codings.{Codings}
 use Rattle.client.specs.Call.{Call}
 use Rattle.endpoint.specs.Checks.{is_untimely}
@@ -54,8 +54,8 @@ module _ (m : Memory) (t : ℕ) (own server : List ℕ) (a : Attempt) (g : Codin
   -- so a call with either comes to the same, refused or done
   outcome-alike : (k : Check) → ((outcome_of m this k).memory ≡ (outcome_of m that k).memory) × ((outcome_of m this k).event ≡ (outcome_of m that k).event)
       × ((outcome_of m this k).written ≡ (outcome_of m that k).written) × (output_if m this k ≡ output_if m that k)
-  outcome-alike Clear = (after-alike, event-alike, refl, refl)
-  outcome-alike (Refused r) = (refl, refl, refl, refl)
+  outcome-alike (Ok _) = (after-alike, event-alike, refl, refl)
+  outcome-alike (Err r) = (refl, refl, refl, refl)
 
   pub remarks_apart : Same m t own server a g seg other
   unfolding step output_of

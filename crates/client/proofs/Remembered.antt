@@ -1,44 +1,20 @@
 -- Entries that move one place on, up to the place of the one that is taken out. Assumes nothing.
-use Prim.Native.Nat.{ℕ, suc, ◌+◌, ◌≤◌, ◌<◌}
+use Rattle.std.specs.Prelude.{None, Some, unwrap_or, position}
+use Rattle.std.specs.List.{position_or_len, copy_within}
+use Rattle.std.proofs.lemmas.List.{get_or_past}
+use Prim.Native.Nat.{ℕ, suc, ◌+◌, ◌-◌, ◌≤◌, ◌<◌}
 use mathlib.Core.Path.{◌≡◌, refl, sym, ap, ◌∙◌}
 use mathlib.Core.Bool.{Bool, true, false, cond}
-use mathlib.Core.List.{List, [], ◌∷◌, ◌++◌, append_assoc, append-nil}
+use mathlib.Core.List.{List, [], ◌∷◌, ◌++◌, append-nil}
 use native.Mathlib.Omega.{arith}
-use native.Mathlib.Numerals.{add-one}
+use lib.Dec.{ltb}
 use lib.ListN.{length, take, drop, get_or, set, length-append, length-drop, drop_of_length-le}
-use lib.Seq.{take_all, take-suc, drop-cons, set_at, get_or_at, length-take-le}
-use Rattle.segment.specs.declared.options.Mss.TheVariants.{NotGiven}
+use borrow.Author.Tests.{ltb-true, ltb-false}
+use lib.Seq.{paste, take_all, length-take-le}
 use Rattle.lists.specs.Lists.{first_index, drop_first}
-use Rattle.client.specs.declared.cache.Entry.{Entry}
-
--- what stands in for an entry past the array
-abbrev pub empty : Entry
-empty = record { used = false; addr = []; cookie = []; len = 0; mss = NotGiven }
+use Rattle.client.proofs.AddBan.{first_is_position}
 
 module _ {A : Type 0} where
-  -- a new element in front, and the first i elements one place on
-  abbrev pub shifted : A → List A → ℕ → List A
-  shifted x xs i = take i (x ∷ xs) ++ drop i xs
-
-  module _ (x : A) (xs : List A) (i : ℕ) (d : A) (h : i < length xs) where
-    front : length (take i (x ∷ xs)) ≡ i
-    front = length-take-le i (x ∷ xs) (omega arith)
-
-    -- what stands at place i is what goes to the next one
-    pub shifted_at : (ys : List A) → ys ≡ shifted x xs i → get_or ys i d ≡ get_or (x ∷ xs) (i + 1) d
-    shifted_at ys e =
-        let seam : ys ≡ take i (x ∷ xs) ++ get_or xs i d ∷ drop (suc i) xs = e ∙ ap (λ (zs : List A). take i (x ∷ xs) ++ zs) (drop-cons xs i d h) in
-        rw (add-one, seam) (get_or_at (take i (x ∷ xs)) (get_or xs i d) (drop (suc i) xs) d i front)
-
-    pub shifted-on : (ys : List A) (c : A) → ys ≡ shifted x xs i → c ≡ get_or (x ∷ xs) i d → set ys i c ≡ shifted x xs (i + 1)
-    shifted-on ys c e k =
-        let seam : ys ≡ take i (x ∷ xs) ++ get_or xs i d ∷ drop (suc i) xs = e ∙ ap (λ (zs : List A). take i (x ∷ xs) ++ zs) (drop-cons xs i d h) in
-        let stored : set ys i c ≡ take i (x ∷ xs) ++ get_or (x ∷ xs) i d ∷ drop (suc i) xs =
-        rw (seam, k) (set_at (take i (x ∷ xs)) (get_or xs i d) (drop (suc i) xs) (get_or (x ∷ xs) i d) i front) in
-        let next : take (suc i) (x ∷ xs) ++ drop (suc i) xs ≡ take i (x ∷ xs) ++ get_or (x ∷ xs) i d ∷ drop (suc i) xs =
-        ap (λ (zs : List A). zs ++ drop (suc i) xs) (take-suc (x ∷ xs) i d (omega arith)) ∙ append_assoc (take i (x ∷ xs)) (get_or (x ∷ xs) i d ∷ []) (drop (suc i) xs) in
-        rw add-one (stored ∙ sym next)
-
   -- one element is out
   drop-first : (p : A → Bool) (xs : List A) → drop_first p xs ≡ take (first_index p xs) xs ++ drop (suc (first_index p xs)) xs
   drop-first p [] = refl
@@ -49,20 +25,52 @@ module _ {A : Type 0} where
       go more true = refl
       go more false = ap (λ (zs : List A). x ∷ zs) more
 
-  module _ (p : A → Bool) (x : A) (xs : List A) (n : ℕ) (full : length xs ≡ n) where
-    -- an element passes: it is taken out
-    pub shifted_out : first_index p xs < n → shifted x xs (first_index p xs + 1) ≡ take n (x ∷ drop_first p xs)
-    shifted_out h =
-        let i = first_index p xs in
-        let out = drop-first p xs in
-        let size : length (x ∷ (take i xs ++ drop (suc i) xs)) ≤ n =
-        omega (arith, length-append (take i xs) (drop (suc i) xs), length-take-le i xs (omega arith), length-drop (suc i) xs) in
-        rw (add-one, out) (sym (take_all n (x ∷ (take i xs ++ drop (suc i) xs)) size))
+  front : (x : A) (xs ys zs : List A) → 0 < length xs → set (take 1 xs ++ ys ++ zs) 0 x ≡ x ∷ (ys ++ zs)
+  front x [] ys zs h = absurd (omega (arith, h))
+  front x (z ∷ xs) ys zs h = refl
 
-    -- none does: the last is dropped
-    pub shifted_all : n ≤ first_index p xs → shifted x xs n ≡ take n (x ∷ drop_first p xs)
-    shifted_all h =
-        let i = first_index p xs in
-        let whole : drop_first p xs ≡ xs =
-        drop-first p xs ∙ rw (take_all i xs (omega arith), drop_of_length-le xs {i = suc i} (omega arith)) (append-nil xs) in
-        rw (whole, drop_of_length-le xs {i = n} (omega arith)) (append-nil (take n (x ∷ xs)))
+  -- the elements before the one that is taken out move one place on; where none is, all do but the last
+  module _ (p : A → Bool) (x : A) (xs : List A) (full : length xs ≡ 32) where
+    abbrev place : ℕ
+    place = position_or_len p xs
+
+    next : suc place ≡ 1 + place
+    next = omega arith
+
+    out : drop_first p xs ≡ take place xs ++ drop (1 + place) xs
+    out = drop-first p xs ∙ rw (first_is_position p xs, next) refl
+
+    pub moved_on : set (copy_within xs 0 (unwrap_or (position p xs) 31) 1) 0 x ≡ take 32 (x ∷ drop_first p xs)
+    moved_on =
+        let n = unwrap_or (position p xs) 31 in
+        let all : n - 0 ≡ n = omega arith in
+        ap (λ k. set (paste xs 1 xs k) 0 x) all ∙ front x xs _ _ (omega (arith, full)) ∙ go (ltb place (length xs)) refl
+      where
+        go : (b : Bool) → ltb place (length xs) ≡ b
+            → x ∷ (take (unwrap_or (cond b (Some place) None) 31) xs ++ drop (1 + unwrap_or (cond b (Some place) None) 31) xs) ≡ take 32 (x ∷ drop_first p xs)
+        go true q =
+            let h = ltb-true place (length xs) q in
+            let size : length (x ∷ (take place xs ++ drop (1 + place) xs)) ≤ 32 =
+            omega (arith, full, h, length-append (take place xs) (drop (1 + place) xs), length-take-le place xs (omega (arith, h)), length-drop (1 + place) xs) in
+            rw out (sym (take_all 32 (x ∷ (take place xs ++ drop (1 + place) xs)) size))
+        go false q =
+            let h = ltb-false place (length xs) q in
+            let whole : drop_first p xs ≡ xs =
+            out ∙ rw (take_all place xs h, drop_of_length-le xs {i = 1 + place} (omega (arith, h))) (append-nil xs) in
+            rw (whole, drop_of_length-le xs {i = 32} (omega (arith, full))) (append-nil (x ∷ take 31 xs))
+
+-- what stands at the first place that passes, or nothing
+module _ {A : Type 0} (p : A → Bool) (xs : List A) where
+  pub found_at : {i : ℕ} → Some i ≡ position p xs → i ≡ first_index p xs
+  found_at {i} e = rw (first_is_position p xs) (go (ltb (position_or_len p xs) (length xs)) e)
+    where
+      go : (b : Bool) → Some i ≡ cond b (Some (position_or_len p xs)) None → i ≡ position_or_len p xs
+      go true q = cc
+      go false q = absurd (let z : ◌≡◌ {A = ℕ} 0 1 = cc in omega arith)
+
+  pub found_nowhere : (d : A) → None ≡ position p xs → d ≡ get_or xs (first_index p xs) d
+  found_nowhere d e = rw (first_is_position p xs) (sym (get_or_past xs (position_or_len p xs) d (go (ltb (position_or_len p xs) (length xs)) refl e)))
+    where
+      go : (b : Bool) → ltb (position_or_len p xs) (length xs) ≡ b → None ≡ cond b (Some (position_or_len p xs)) None → length xs ≤ position_or_len p xs
+      go true q n = absurd (let z : ◌≡◌ {A = ℕ} 0 1 = cc in omega arith)
+      go false q n = ltb-false _ _ q

@@ -1,4 +1,6 @@
 -- Options and data of an opening fit the server's MSS together, or no data goes. Assumes nothing.
+use Rattle.std.specs.Prelude.{Option}
+use Rattle.segment.specs.Refusal.{all_clear}
 use Prim.Native.Nat.{ℕ, ◌-◌, ◌≤◌}
 use mathlib.Core.Path.{◌≡◌, refl, ◌∙◌}
 use mathlib.Core.Bool.{Bool, not}
@@ -9,13 +11,12 @@ use lib.Seq.{length-take-le}
 use Rattle.segment.specs.Options.{is_cookie_length}
 use Rattle.segment.specs.declared.options.Coding.TheVariants.{New}
 use Rattle.segment.specs.Write.{option_length, option_bytes}
-use Rattle.segment.specs.declared.refusal.Check.TheVariants.{Clear}
 use Rattle.segment.proofs.Writes.{options-length}
 use Rattle.segment.proofs.Written.{length_most}
 use Rattle.segment.proofs.Exchange.{opening_whole}
 use Rattle.endpoint.specs.declared.address.Family.{Family}
 use Rattle.endpoint.specs.declared.address.Family.TheVariants.{V4, V6}
-use Rattle.client.specs.Cache.{cookie_length, cookie_of, mss_cap, mss_for, data_room}
+use Rattle.client.specs.Cache.{stored_cookie, cookie_length, cookie_of, mss_cap, mss_for, data_room}
 use Rattle.client.specs.Refusals.{call_check}
 use Rattle.client.specs.Room.{opening, fields, options, sent, LeavesRoom, RoomForOptions, RoomExamples}
 use Rattle.client.specs.Step.{sent_with, banned_for, stored_for}
@@ -32,18 +33,18 @@ cap_least V4 = omega arith
 cap_least V6 = omega arith
 
 module _ (m : Memory) (t : ℕ) (own server : List ℕ) (o : ActiveOpen) (offered : List ℕ) (out_len : ℕ)
-    (h : length (stored_for m server).cookie ≡ 16) (clear : call_check m (opening m t own server o offered out_len) ≡ Clear) where
+    (h : length (stored_cookie (stored_for m server)).bytes ≡ 16) (clear : call_check m (opening m t own server o offered out_len) ≡ all_clear) where
   abbrev banned : Bool
   banned = banned_for m t server o
 
-  abbrev entry : Entry
+  abbrev entry : Option Entry
   entry = stored_for m server
 
   sent_is : sent m t own server o offered out_len ≡ sent_with m.family banned entry (length offered)
   sent_is = sent_told m t own server o offered out_len clear
 
   options_are : length (options m t own server o offered out_len) ≡ option_length (not banned) New (cookie_length entry)
-  options_are = options-length o.mss (not banned) New (cookie_of entry) ∙ rw (length-take-le (cookie_length entry) entry.cookie (omega (arith, cookie-most entry)))
+  options_are = options-length o.mss (not banned) New (cookie_of entry) ∙ rw (length-take-le (cookie_length entry) (stored_cookie entry).bytes (omega (arith, cookie-most entry)))
 
   left : sent m t own server o offered out_len ≤ mss_for m.family entry - length (options m t own server o offered out_len)
   left = omega (arith, sent_is, options_are, sent-left m.family banned entry (length offered))

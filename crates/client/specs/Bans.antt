@@ -1,11 +1,10 @@
 -- Document 01, "Client": the bans, which of them are live, and where a new one goes.
 -- Assumes nothing.
-use Rattle.std.specs.Prelude.{ℕ, ◌+◌, List, Bool, cond, not, ◌&&◌, ltb, leb, replicate, set}
+use Rattle.std.specs.Prelude.{ℕ, ◌+◌, List, Bool, not, ◌&&◌, ltb, leb, replicate, set, Option, is_some, unwrap_or, position}
+use Rattle.std.specs.Option.{option_or}
 use Rattle.lists.specs.Lists.{first_index, every}
 use Rattle.endpoint.specs.Address.{same_name}
-use Rattle.client.specs.Cache.{place_count}
 use Rattle.client.specs.declared.bans.Ban.{Ban}
-use Rattle.client.specs.declared.state.Memory.{Memory}
 
 -- how long a ban lasts, in ms
 abbrev pub ban_time : ℕ
@@ -23,15 +22,16 @@ is_live t x = ltb t x.end
 unfoldable pub is_ban : ℕ → List ℕ → ℕ → Ban → Bool
 is_ban t b port x = is_live t x && same_name x.port port x.addr b
 
-abbrev pub ban_place : ℕ → List ℕ → ℕ → List Ban → ℕ
-ban_place t b port bans = first_index (is_ban t b port) bans
+-- its place, if there is one
+abbrev pub ban_place : ℕ → List ℕ → ℕ → List Ban → Option ℕ
+ban_place t b port bans = position (is_ban t b port) bans
 
 abbrev pub is_banned : ℕ → List ℕ → ℕ → List Ban → Bool
-is_banned t b port bans = ltb (ban_place t b port bans) place_count
+is_banned t b port bans = is_some (ban_place t b port bans)
 
--- the lowest place that is not live; 32 where all are
-abbrev pub free_place : ℕ → List Ban → ℕ
-free_place t bans = first_index (λ x. not (is_live t x)) bans
+-- the lowest place that is not live; none where all are
+abbrev pub free_place : ℕ → List Ban → Option ℕ
+free_place t bans = position (λ x. not (is_live t x)) bans
 
 -- the lowest place of those that end first
 unfoldable pub ends_first : List Ban → ℕ
@@ -39,9 +39,7 @@ ends_first bans = first_index (λ x. every (λ y. leb x.end y.end) bans) bans
 
 -- A ban of a live name takes that place. Another takes the lowest place that is not live; when all 32 are live, the one that ends first makes way.
 abbrev pub place_for : ℕ → List ℕ → ℕ → List Ban → ℕ
-place_for t b port bans =
-    cond (is_banned t b port bans) (ban_place t b port bans)
-    (cond (ltb (free_place t bans) place_count) (free_place t bans) (ends_first bans))
+place_for t b port bans = unwrap_or (option_or (ban_place t b port bans) (free_place t bans)) (ends_first bans)
 
 -- it ends 600,000 ms after it was set
 abbrev pub new_ban : ℕ → List ℕ → ℕ → Ban
@@ -49,6 +47,3 @@ new_ban t b port = record { addr = b; port = port; end = t + ban_time }
 
 unfoldable pub add_ban : ℕ → List ℕ → ℕ → List Ban → List Ban
 add_ban t b port bans = set bans (place_for t b port bans) (new_ban t b port)
-
-abbrev pub with_bans : Memory → List Ban → Memory
-with_bans m bans = record { cache = m.cache; bans = bans; started = m.started; family = m.family; clock = m.clock }

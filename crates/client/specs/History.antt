@@ -1,16 +1,14 @@
 -- Document 01, "Client", over every list of a memory's calls: what a record of the calls, fed each call and the number returned, has as stored.
 -- Assumes nothing.
-use Rattle.std.specs.Prelude.{ℕ, ◌≤◌, ◌≡◌, List, [], ◌∷◌, ◌++◌, map, Bool, true, false, cond, not, ◌&&◌, ◌||◌, eqb, length, take}
-use Rattle.segment.specs.declared.options.Mss.{Mss}
-use Rattle.segment.specs.declared.options.Mss.TheVariants.{NotGiven, Given}
+use Rattle.std.specs.Prelude.{ℕ, ◌≤◌, ◌≡◌, List, [], ◌∷◌, ◌++◌, map, Bool, true, false, cond, not, ◌&&◌, ◌||◌, eqb, length, take, None, Option, Some, is_some}
 use Rattle.lists.specs.Bytes.{same_bytes}
 use Rattle.lists.specs.Lists.{tally}
 use Rattle.endpoint.specs.Address.{size, is_address}
 use Rattle.endpoint.specs.declared.address.Family.{Family}
-use Rattle.client.specs.Cache.{place_count, cookie_of}
+use Rattle.client.specs.Cache.{place_count, stored_mss, bytes_of, cookie_of}
 use Rattle.client.specs.Bans.{is_ban}
 use Rattle.client.specs.Call.{Call, connect, answer, failed, number_of_event}
-use Rattle.client.specs.Step.{start_of, cookie_in, mss_in, is_given, stored_for, step}
+use Rattle.client.specs.Step.{start_of, cookie_in, mss_in, stored_for, step}
 use Rattle.client.specs.declared.cache.Entry.{Entry}
 use Rattle.client.specs.declared.state.Memory.{Memory}
 
@@ -20,16 +18,16 @@ use Rattle.client.specs.declared.state.Memory.{Memory}
 pub record Store : Type 0 where
   pub address : List ℕ
   pub cookie : List ℕ
-  pub mss : Mss
+  pub mss : Option ℕ
 
 -- an answer brings something to store
-abbrev pub is_store : List ℕ → Mss → Bool
-is_store [] NotGiven = false
-is_store [] (Given v) = true
+abbrev pub is_store : List ℕ → Option ℕ → Bool
+is_store [] None = false
+is_store [] (Some v) = true
 is_store (x ∷ c) mss = true
 
 -- The stores, the newest first. An answer that was not refused is one if it brings a cookie or an MSS.
-abbrev pub stores_with : List Store → List ℕ → List ℕ → Mss → List Store
+abbrev pub stores_with : List Store → List ℕ → List ℕ → Option ℕ → List Store
 stores_with s server cookie mss = cond (is_store cookie mss) (record { address = server; cookie = cookie; mss = mss } ∷ s) s
 
 abbrev pub stores_after : List Store → Call → ℕ → List Store
@@ -65,12 +63,12 @@ last_cookie a (x ∷ s) =
     (cond (same_bytes x.address a && not (eqb (length x.cookie) 0)) x.cookie (last_cookie a s))
     []
 
-unfoldable pub last_mss : List ℕ → List Store → Mss
-last_mss a [] = NotGiven
+unfoldable pub last_mss : List ℕ → List Store → Option ℕ
+last_mss a [] = None
 last_mss a (x ∷ s) =
     cond (member a (recent (x ∷ s)))
-    (cond (same_bytes x.address a && is_given x.mss) x.mss (last_mss a s))
-    NotGiven
+    (cond (same_bytes x.address a && is_some x.mss) x.mss (last_mss a s))
+    None
 
 abbrev pub recalled : List Store → List Store
 recalled s = map (λ a. record { address = a; cookie = last_cookie a s; mss = last_mss a s }) (recent s)
@@ -79,12 +77,13 @@ recalled s = map (λ a. record { address = a; cookie = last_cookie a s; mss = la
 
 -- the entry as a store: its address out of the block, its cookie, its MSS
 abbrev pub entry_as : Family → Entry → Store
-entry_as f e = record { address = take (size f) e.addr; cookie = cookie_of e; mss = e.mss }
+entry_as f e = record { address = take (size f) e.addr; cookie = bytes_of e.cookie; mss = e.mss }
 
--- the used entries, in their order
-unfoldable pub stored_in : Family → List Entry → List Store
+-- the entries, in their order
+unfoldable pub stored_in : Family → List (Option Entry) → List Store
 stored_in f [] = []
-stored_in f (e ∷ es) = cond e.used (entry_as f e ∷ stored_in f es) (stored_in f es)
+stored_in f (None ∷ es) = stored_in f es
+stored_in f (Some e ∷ es) = entry_as f e ∷ stored_in f es
 
 -- Over a list of calls
 
@@ -128,7 +127,7 @@ module _ (n : ℕ) (calls : List Call) where
     pub stored : stored_in started.family memory_after.cache ≡ recalled stores
     -- so an opening finds the last cookie of its server, and the last MSS
     pub found : (server : List ℕ) → is_address started.family server ≡ true
-        → (cookie_of (stored_for memory_after server) ≡ last_cookie server stores) × ((stored_for memory_after server).mss ≡ last_mss server stores)
+        → (cookie_of (stored_for memory_after server) ≡ last_cookie server stores) × (stored_mss (stored_for memory_after server) ≡ last_mss server stores)
     -- no address stands twice
     pub once : Once (map (λ x. x.address) (stored_in started.family memory_after.cache))
     -- no two live bans have one name, at the clock or later

@@ -1,22 +1,20 @@
 -- Document 01, "Numbers returned" and "Client": the checks of each call, and the refusal that they come to.
 -- Assumes nothing.
-use Rattle.std.specs.Prelude.{ℕ, List, [], ◌∷◌, ◌++◌, Bool, not, ◌&&◌, ltb, leb, eqb}
+use Rattle.std.specs.Prelude.{ℕ, List, [], ◌∷◌, ◌++◌, Bool, not, ◌&&◌, ltb, leb, eqb, Result, Err, Ok}
 use Rattle.segment.specs.Refusal.{Checks, refusal}
 use Rattle.segment.specs.Header.{malformed, fields_of, is_syn_ack}
 use Rattle.segment.specs.Options.{least_mss, most_mss}
 use Rattle.segment.specs.Write.{longest_opening}
 use Rattle.segment.specs.Checksum.{checksum_right}
 use Rattle.segment.specs.Sequence.{acknowledged}
+use Rattle.segment.specs.declared.refusal.Refusal.{Refusal}
 use Rattle.segment.specs.declared.refusal.Refusal.TheVariants.{Format, Checksum, Port, Flags, Sequence, Output, Range}
-use Rattle.segment.specs.declared.refusal.Check.{Check}
-use Rattle.segment.specs.declared.refusal.Check.TheVariants.{Clear, Refused}
+use Rattle.segment.specs.Refusal.{Check}
 use Rattle.segment.specs.declared.header.Header.{Header}
 use Rattle.endpoint.specs.Checks.{is_untimely, timely, addressed}
 use Rattle.endpoint.specs.declared.address.Family.{Family}
 use Rattle.client.specs.Call.{Call, connect, answer, failed}
 use Rattle.client.specs.declared.outcome.Attempt.{Attempt}
-use Rattle.client.specs.declared.checks.Reply.{Reply}
-use Rattle.client.specs.declared.checks.Reply.TheVariants.{Dropped, Acknowledged}
 use Rattle.client.specs.declared.state.Memory.{Memory}
 
 -- the most bytes of data that an attempt may have sent
@@ -68,6 +66,6 @@ unfoldable pub call_check : Memory → Call → Check
 call_check m c = refusal (checks m c)
 
 -- an answer that is not refused has its acknowledged count
-abbrev pub reply_from : Check → Attempt → Header → Reply
-reply_from Clear a h = Acknowledged (count_in a h)
-reply_from (Refused r) a h = Dropped r
+abbrev pub reply_from : Check → Attempt → Header → Result ℕ Refusal
+reply_from (Ok _) a h = Ok (count_in a h)
+reply_from (Err r) a h = Err r

@@ -1,13 +1,11 @@
 -- Document 02, Item 2: options and data of an opening fit the server's MSS together, or no data goes.
 -- Assumes nothing.
-use Rattle.std.specs.Prelude.{ℕ, ◌+◌, ◌≤◌, ◌<◌, ◌≡◌, List, true, false, length, take, replicate}
+use Rattle.std.specs.Prelude.{ℕ, ◌+◌, ◌≤◌, ◌<◌, ◌≡◌, List, false, length, take, replicate, None, Option, Some}
+use Rattle.segment.specs.Refusal.{all_clear}
 use Rattle.segment.specs.Write.{segment_bytes, options_for, opening_fields}
-use Rattle.segment.specs.declared.refusal.Check.TheVariants.{Clear}
-use Rattle.segment.specs.declared.options.Mss.{Mss}
-use Rattle.segment.specs.declared.options.Mss.TheVariants.{NotGiven, Given}
 use Rattle.segment.specs.declared.write.Opening.{Opening}
 use Rattle.endpoint.specs.declared.address.Family.TheVariants.{V4, V6}
-use Rattle.client.specs.Cache.{cookie_of, mss_cap, mss_for}
+use Rattle.client.specs.Cache.{stored_cookie, cookie_of, mss_cap, mss_for}
 use Rattle.client.specs.Call.{Call, connect, count_of}
 use Rattle.client.specs.Refusals.{call_check}
 use Rattle.client.specs.Step.{sent_with, opening_for, banned_for, stored_for, step, output_of}
@@ -46,23 +44,23 @@ module _ (m : Memory) (t : ℕ) (own server : List ℕ) (o : ActiveOpen) (offere
 abbrev pub RoomForOptions : Type 0
 RoomForOptions =
     (m : Memory) (t : ℕ) (own server : List ℕ) (o : ActiveOpen) (offered : List ℕ) (out_len : ℕ)
-    → length (stored_for m server).cookie ≡ 16 → call_check m (connect t own server o offered out_len) ≡ Clear
+    → length (stored_cookie (stored_for m server)).bytes ≡ 16 → call_check m (connect t own server o offered out_len) ≡ all_clear
     → LeavesRoom m t own server o offered out_len
 
 -- Worked examples: what is sent of 1,460 bytes, by the cookie's length and the stored MSS
 
-abbrev pub storing : ℕ → Mss → Entry
-storing n mss = record { used = true; addr = replicate 16 0; cookie = replicate 16 0; len = n; mss = mss }
+abbrev pub storing : ℕ → Option ℕ → Option Entry
+storing n mss = Some (record { addr = replicate 16 0; cookie = record { bytes = replicate 16 0; len = n }; mss = mss })
 
 pub record RoomExamples : Type 0 where
-  pub v4_stored : sent_with V4 false (storing 8 (Given 1460)) 1460 ≡ 1444
-  pub v4_stored_536 : sent_with V4 false (storing 8 (Given 536)) 1460 ≡ 520
-  pub v4_default : sent_with V4 false (storing 8 NotGiven) 1460 ≡ 520
-  pub v6_stored : sent_with V6 false (storing 8 (Given 1440)) 1460 ≡ 1424
-  pub v6_capped : sent_with V6 false (storing 8 (Given 1460)) 1460 ≡ 1424
-  pub v6_default : sent_with V6 false (storing 8 NotGiven) 1460 ≡ 1204
-  pub shortest_cookie : sent_with V4 false (storing 4 (Given 1460)) 1460 ≡ 1448
-  pub longest-cookie : sent_with V4 false (storing 16 (Given 1460)) 1460 ≡ 1436
-  pub one_left : sent_with V4 false (storing 8 (Given 17)) 1460 ≡ 1
-  pub none_left : sent_with V4 false (storing 8 (Given 16)) 1460 ≡ 0
-  pub too_small : sent_with V4 false (storing 8 (Given 15)) 1460 ≡ 0
+  pub v4_stored : sent_with V4 false (storing 8 (Some 1460)) 1460 ≡ 1444
+  pub v4_stored_536 : sent_with V4 false (storing 8 (Some 536)) 1460 ≡ 520
+  pub v4_default : sent_with V4 false (storing 8 None) 1460 ≡ 520
+  pub v6_stored : sent_with V6 false (storing 8 (Some 1440)) 1460 ≡ 1424
+  pub v6_capped : sent_with V6 false (storing 8 (Some 1460)) 1460 ≡ 1424
+  pub v6_default : sent_with V6 false (storing 8 None) 1460 ≡ 1204
+  pub shortest_cookie : sent_with V4 false (storing 4 (Some 1460)) 1460 ≡ 1448
+  pub longest-cookie : sent_with V4 false (storing 16 (Some 1460)) 1460 ≡ 1436
+  pub one_left : sent_with V4 false (storing 8 (Some 17)) 1460 ≡ 1
+  pub none_left : sent_with V4 false (storing 8 (Some 16)) 1460 ≡ 0
+  pub too_small : sent_with V4 false (storing 8 (Some 15)) 1460 ≡ 0

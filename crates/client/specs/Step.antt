@@ -1,16 +1,12 @@
 -- Document 01, "Client", and document 02, Items 4, 7 and 9: the start, and one call on a memory with its outcome: the memory next, what happened, what is written and what is remarked.
 -- Assumes nothing.
-use Rattle.std.specs.Prelude.{ℕ, min, List, [], ◌∷◌, Bool, true, false, cond, not, ◌&&◌, ◌||◌, eqb, length, take, replicate}
-use Rattle.segment.specs.Refusal.{Checks, refusal}
+use Rattle.std.specs.Prelude.{ℕ, min, List, [], ◌∷◌, Bool, true, false, cond, not, ◌&&◌, ◌||◌, eqb, length, take, replicate, Err, Ok, None, Option, is_some}
+use Rattle.segment.specs.Refusal.{Checks, refusal, Check, all_clear}
 use Rattle.segment.specs.Header.{fields_of, option_area}
 use Rattle.segment.specs.Options.{options_of, cookie_bytes}
 use Rattle.segment.specs.Remarks.{no_remarks, remarks_of}
 use Rattle.segment.specs.Write.{opening_bytes}
 use Rattle.segment.specs.declared.refusal.Refusal.TheVariants.{Address}
-use Rattle.segment.specs.declared.refusal.Check.{Check}
-use Rattle.segment.specs.declared.refusal.Check.TheVariants.{Clear, Refused}
-use Rattle.segment.specs.declared.options.Mss.{Mss}
-use Rattle.segment.specs.declared.options.Mss.TheVariants.{NotGiven, Given}
 use Rattle.segment.specs.declared.options.Codings.{Codings}
 use Rattle.segment.specs.declared.options.FastOpenOption.{FastOpenOption}
 use Rattle.segment.specs.declared.options.FastOpenOption.TheVariants.{Absent, Request, Cookie}
@@ -20,7 +16,7 @@ use Rattle.segment.specs.declared.write.Opening.{Opening}
 use Rattle.endpoint.specs.Address.{is_size, family_of, block}
 use Rattle.endpoint.specs.declared.address.Family.{Family}
 use Rattle.endpoint.specs.declared.address.Family.TheVariants.{V4}
-use Rattle.client.specs.Cache.{place_count, unused_entry, entry_for, cookie_length, cookie_of, data_room, learned_from, remembered}
+use Rattle.client.specs.Cache.{place_count, entry_for, cookie_length, cookie_of, data_room, learned_from, remembered}
 use Rattle.client.specs.Bans.{zero_ban, is_banned, add_ban}
 use Rattle.client.specs.Call.{Call, connect, answer, failed}
 use Rattle.client.specs.Refusals.{count_in, call_check}
@@ -38,7 +34,7 @@ use Rattle.client.specs.declared.state.Memory.{Memory}
 
 -- nothing stored, no ban, time 0
 abbrev pub blank : Bool → Family → Memory
-blank started f = record { cache = replicate place_count unused_entry; bans = replicate place_count zero_ban; started = started; family = f; clock = 0 }
+blank started f = record { cache = replicate place_count None; bans = replicate place_count zero_ban; started = started; family = f; clock = 0 }
 
 -- a memory that was never started: every call on it returns 13
 abbrev pub never_started : Memory
@@ -48,8 +44,8 @@ abbrev pub start_checks : ℕ → Checks
 start_checks n = (Address, not (is_size n)) ∷ []
 
 abbrev pub started_by : ℕ → Check → Started
-started_by n Clear = record { memory = blank true (family_of n); check = Clear }
-started_by n (Refused r) = record { memory = never_started; check = Refused r }
+started_by n (Ok _) = record { memory = blank true (family_of n); check = all_clear }
+started_by n (Err r) = record { memory = never_started; check = Err r }
 
 -- a memory is started for the family whose addresses have n bytes
 unfoldable pub start_of : ℕ → Started
@@ -58,14 +54,14 @@ start_of n = started_by n (refusal (start_checks n))
 -- An opening
 
 -- how many of the bytes offered are sent: none where the server is banned or no cookie is stored
-abbrev pub sent_with : Family → Bool → Entry → ℕ → ℕ
+abbrev pub sent_with : Family → Bool → Option Entry → ℕ → ℕ
 sent_with f banned e offered = cond (banned || eqb (cookie_length e) 0) 0 (min offered (data_room f e))
 
 -- a banned server gets no Fast Open option; without a cookie the option is a request
 abbrev pub opening_for : Bool → ActiveOpen → Opening
 opening_for banned o = record { source = o.source; dest = o.dest; iss = o.iss; mss = o.mss; fast = not banned }
 
-abbrev pub opening_with : Family → Bool → Entry → List ℕ → List ℕ → ActiveOpen → List ℕ → ℕ → List ℕ
+abbrev pub opening_with : Family → Bool → Option Entry → List ℕ → List ℕ → ActiveOpen → List ℕ → ℕ → List ℕ
 opening_with f banned e own server o offered out_len =
     opening_bytes own server (opening_for banned o) (cookie_of e) (take (sent_with f banned e (length offered)) offered) out_len
 
@@ -78,19 +74,15 @@ options_in g seg = options_of g seg
 abbrev pub cookie_in : Codings → List ℕ → List ℕ
 cookie_in g seg = cookie_bytes (options_in g seg).fast (option_area seg)
 
-abbrev pub mss_in : Codings → List ℕ → Mss
+abbrev pub mss_in : Codings → List ℕ → Option ℕ
 mss_in g seg = (options_in g seg).mss
 
-abbrev pub is_given : Mss → Bool
-is_given NotGiven = false
-is_given (Given v) = true
-
 -- a cookie that is not empty, or an MSS
-abbrev pub brings : List ℕ → Mss → Bool
-brings cookie mss = not (eqb (length cookie) 0) || is_given mss
+abbrev pub brings : List ℕ → Option ℕ → Bool
+brings cookie mss = not (eqb (length cookie) 0) || is_some mss
 
 -- an answer that brings either makes its address the most recent
-abbrev pub cache_after : List ℕ → List ℕ → Mss → List Entry → List Entry
+abbrev pub cache_after : List ℕ → List ℕ → Option ℕ → List (Option Entry) → List (Option Entry)
 cache_after b cookie mss es = cond (brings cookie mss) (remembered (learned_from (entry_for b es) b cookie mss) es) es
 
 -- data was sent and none acknowledged
@@ -113,7 +105,7 @@ bans_after t b port negative bans = cond negative (add_ban t b port bans) bans
 -- A done call
 
 -- the memory at a time, with this cache and these bans
-abbrev pub moved : Memory → ℕ → List Entry → List Ban → Memory
+abbrev pub moved : Memory → ℕ → List (Option Entry) → List Ban → Memory
 moved m t es bans = record { cache = es; bans = bans; started = m.started; family = m.family; clock = t }
 
 unfoldable pub after : Memory → Call → Memory
@@ -127,7 +119,7 @@ after m (failed t server port) = moved m t m.cache (add_ban t (block server) por
 abbrev pub banned_for : Memory → ℕ → List ℕ → ActiveOpen → Bool
 banned_for m t server o = is_banned t (block server) o.dest m.bans
 
-abbrev pub stored_for : Memory → List ℕ → Entry
+abbrev pub stored_for : Memory → List ℕ → Option Entry
 stored_for m server = entry_for (block server) m.cache
 
 abbrev pub done_event : Memory → Call → Event
@@ -152,15 +144,15 @@ abbrev pub outcome : Memory → Event → ℕ → Remarks → Outcome
 outcome m e n r = record { memory = m; event = e; written = n; remarks = r }
 
 abbrev pub outcome_of : Memory → Call → Check → Outcome
-outcome_of m c Clear = outcome (after m c) (done_event m c) (length (done_output m c)) (done_remarks c)
-outcome_of m c (Refused r) = outcome m (events.Refused r) 0 no_remarks
+outcome_of m c (Ok _) = outcome (after m c) (done_event m c) (length (done_output m c)) (done_remarks c)
+outcome_of m c (Err r) = outcome m (events.Refused r) 0 no_remarks
 
 unfoldable pub step : Memory → Call → Outcome
 step m c = outcome_of m c (call_check m c)
 
 abbrev pub output_if : Memory → Call → Check → List ℕ
-output_if m c Clear = done_output m c
-output_if m c (Refused r) = []
+output_if m c (Ok _) = done_output m c
+output_if m c (Err r) = []
 
 -- what a call writes at the output's start
 unfoldable pub output_of : Memory → Call → List ℕ

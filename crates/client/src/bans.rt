@@ -1,15 +1,22 @@
 // The bans: servers, by address and port, that no Fast Open option is sent to for a while.
-ghost use Rattle.std.specs.Prelude.{◌≡◌, ◌≤◌};
+ghost use Rattle.std.specs.Prelude.{◌≡◌, ◌≤◌, ◌<◌};
 ghost use Rattle.endpoint.specs.Checks.{last_time};
-ghost use Rattle.client.specs.Bans.{zero_ban, is_ban, ban_place, is_banned, free_place, ends_first, place_for, add_ban, with_bans};
+ghost use Rattle.client.specs.Bans.{zero_ban, is_ban, ban_place, is_banned, free_place, ends_first, place_for, add_ban};
 
-use crate::state::{Memory, PLACES};
+use crate::state::PLACES;
 use endpoint::address::same_name;
 
 // How long a ban lasts, in ms.
 pub const BAN_TIME: u64 = 600000;
 
-// A server's name, the address by its block, and the time at which the ban ends.
+// A server's name: its address, by the block, and its port.
+#[derive(Clone, Copy, Drop)]
+pub(crate) struct Name {
+    pub addr: [u8; 16],
+    pub port: u16,
+}
+
+// A server's name, and the time at which the ban ends. A place that never had a ban is as free as one whose ban has ended, so its end is 0.
 #[derive(Clone, Copy, Drop)]
 pub struct Ban {
     pub addr: [u8; 16],
@@ -28,93 +35,68 @@ pub(crate) fn no_ban() -> Ban
 }
 
 // Whether a ban of this name is live at the time.
-fn is_ban(time: u64, b: [u8; 16], port: u16, x: Ban) -> bool
-    ensures { result ≡ is_ban time b port x }
+#[tactic(auto, unfolding(crate::specs::Bans::is_ban))]
+fn is_ban(time: u64, name: Name, x: &Ban) -> bool
+    ensures { result ≡ is_ban time name.addr name.port x.now }
 {
-    if x.end <= time {
-        return false;
-    }
-    let a = x.addr;
-    same_name(x.port, port, a, b)
+    time < x.end && same_name(x.port, name.port, x.addr, name.addr)
 }
 
-// The place of the live ban of this name; 32 where there is none.
-fn ban_place(m: Memory, time: u64, b: [u8; 16], port: u16) -> usize
-    ensures { result ≡ ban_place time b port m.bans }
+// The place of the live ban of this name, if there is one.
+fn ban_place(bans: &[Ban; PLACES], time: u64, name: Name) -> Option<usize>
+    ensures { result ≡ ban_place time name.addr name.port bans.now }
 {
-    for i in 0..PLACES {
-        let x = m.bans[i];
-        if is_ban(time, b, port, x) {
-            return i;
-        }
-    }
-    PLACES
+    bans.iter().position(|x| is_ban(time, name, x))
 }
 
-pub(crate) fn is_banned(m: Memory, time: u64, b: [u8; 16], port: u16) -> bool
-    ensures { result ≡ is_banned time b port m.bans }
+pub(crate) fn is_banned(bans: &[Ban; PLACES], time: u64, name: Name) -> bool
+    ensures { result ≡ is_banned time name.addr name.port bans.now }
 {
-    ban_place(m, time, b, port) < PLACES
+    ban_place(bans, time, name).is_some()
 }
 
-// The lowest place that is not live; 32 where there is none.
-fn free_place(m: Memory, time: u64) -> usize
-    ensures { result ≡ free_place time m.bans }
+// The lowest place that is not live, if there is one.
+fn free_place(bans: &[Ban; PLACES], time: u64) -> Option<usize>
+    ensures { result ≡ free_place time bans.now }
 {
-    for i in 0..PLACES {
-        let x = m.bans[i];
-        if x.end <= time {
-            return i;
-        }
-    }
-    PLACES
+    bans.iter().position(|x| x.end <= time)
 }
 
 // The place of the ban that ends first, the lowest on a tie.
-fn first_to_end(m: Memory) -> usize
-    ensures { result ≡ ends_first m.bans }
+fn first_to_end(bans: &[Ban; PLACES]) -> usize
+    ensures place { result ≡ ends_first bans.now }
+    ensures within { result < 32 }
 {
-    let first = m.bans[0];
-    let mut at = 0;
-    let mut end = first.end;
-    for i in 1..PLACES {
-        let x = m.bans[i];
-        if x.end < end {
-            at = i;
-            end = x.end;
+    let mut first = 0;
+    for (i, x) in bans.iter().enumerate() {
+        if x.end < bans[first].end {
+            first = i;
         }
     }
-    at
+    first
 }
 
 // Where a ban of this name goes.
-fn place_for(m: Memory, time: u64, b: [u8; 16], port: u16) -> usize
-    ensures { result ≡ place_for time b port m.bans }
+fn place_for(bans: &[Ban; PLACES], time: u64, name: Name) -> usize
+    ensures place { result ≡ place_for time name.addr name.port bans.now }
+    ensures within { result < 32 }
 {
-    let own = ban_place(m, time, b, port);
-    if own < PLACES {
-        return own;
-    }
-    let free = free_place(m, time);
-    if free < PLACES {
-        return free;
-    }
-    first_to_end(m)
+    ban_place(bans, time, name)
+        .or_else(|| free_place(bans, time))
+        .unwrap_or_else(|| first_to_end(bans))
 }
 
 // Bans a server from a time on.
-pub(crate) fn set_ban(mut m: Memory, time: u64, b: [u8; 16], port: u16) -> Memory
+#[tactic(auto, unfolding(crate::specs::Bans::add_ban))]
+pub(crate) fn set_ban(bans: &mut [Ban; PLACES], time: u64, name: Name)
     requires { time ≤ last_time }
-    ensures { result ≡ with_bans m (add_ban time b port m.bans) }
+    ensures { bans.new ≡ add_ban time name.addr name.port bans.old }
 {
-    let i = place_for(m, time, b, port);
-    if i < PLACES {
-        let x = Ban {
-            addr: b,
-            port,
-            end: time + BAN_TIME,
-        };
-        m.bans[i] = x;
-    }
-    m
+    let i = place_for(bans, time, name);
+    let addr = name.addr;
+    bans[i] = Ban {
+        addr,
+        port: name.port,
+        end: time + BAN_TIME,
+    };
 }

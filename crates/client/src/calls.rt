@@ -4,21 +4,19 @@ ghost use Rattle.lists.specs.Bytes.{overwrite};
 ghost use Rattle.segment.specs.Remarks.{no_remarks};
 ghost use Rattle.endpoint.specs.Checks.{last_time};
 ghost use Rattle.client.specs.Refusals.{most_sent};
-ghost use Rattle.client.specs.Cache.{with_cache};
-ghost use Rattle.client.specs.Bans.{with_bans};
 ghost use Rattle.client.specs.Call.{Call};
-ghost use Rattle.client.specs.Step.{blank, never_started, start_of, sent_with, is_given, cache_after, is_unacknowledged, has_cookie, bans_after, outcome, step, output_of, moved};
+ghost use Rattle.client.specs.Step.{blank, never_started, start_of, sent_with, is_unacknowledged, has_cookie, outcome, step, output_of, moved};
 
-use crate::bans::{is_banned, no_ban, set_ban};
-use crate::cache::{Entry, cookie_length, data_room, entry_for, learned, remember, unused_entry};
-use crate::checks::{Reply, check_answer, check_open};
+use crate::bans::{Name, is_banned, no_ban, set_ban};
+use crate::cache::{Entry, cookie_length, data_room, entry_for, learn, stored_cookie};
+use crate::checks::{check_answer, check_open};
 use crate::outcome::{ActiveOpen, Attempt, Event, Outcome, Started, new_outcome};
 use crate::state::{Memory, PLACES};
 use endpoint::address::{Family, block_of, family_of, is_size};
 use endpoint::checks::check_name;
 use segment::header::option_area;
-use segment::options::{Codings, FastOpenOption, Mss, cookie, no_remarks, segment_options};
-use segment::refusal::{Check, Refusal};
+use segment::options::{Codings, FastOpenOption, cookie, no_remarks, segment_options};
+use segment::refusal::Refusal;
 use segment::write::{Opening, write_opening};
 
 // What a call comes to on which nothing is remarked.
@@ -39,11 +37,9 @@ fn refused(m: Memory, why: Refusal) -> Outcome
 fn blank_memory(started: bool, family: Family) -> Memory
     ensures { result ≡ blank started family }
 {
-    let entry = unused_entry();
-    let free = no_ban();
     Memory {
-        cache: [entry; PLACES],
-        bans: [free; PLACES],
+        cache: [None; PLACES],
+        bans: [no_ban(); PLACES],
         started,
         family,
         clock: 0,
@@ -58,45 +54,43 @@ pub fn never_started() -> Memory
 }
 
 // Starts a memory for the family whose addresses have `size` bytes.
+#[tactic(auto, unfolding(crate::specs::Step::start_of))]
 pub fn start(size: usize) -> Started
     ensures { result ≡ start_of size }
 {
     if !is_size(size) {
         return Started {
             memory: never_started(),
-            check: Check::Refused(Refusal::Address),
+            check: Err(Refusal::Address),
         };
     }
     Started {
         memory: blank_memory(true, family_of(size)),
-        check: Check::Clear,
+        check: Ok(()),
     }
 }
 
 // The memory at a time.
-fn at_time(mut m: Memory, time: u64) -> Memory
+fn at_time(m: Memory, time: u64) -> Memory
     ensures { result ≡ moved m time m.cache m.bans }
 {
-    m.clock = time;
-    m
+    Memory { clock: time, ..m }
 }
 
 // How many bytes of the data offered are sent.
-fn sent_with(family: Family, banned: bool, e: Entry, offered: usize) -> usize
+#[tactic(auto, using(crate::proofs::After::room_most))]
+fn sent_with(family: Family, banned: bool, e: Option<Entry>, offered: usize) -> usize
     ensures value { result ≡ sent_with family banned e offered }
     ensures upper_bound { (result ≤ offered) × (result ≤ most_sent) }
 {
-    if banned {
+    if banned || cookie_length(e) == 0 {
         return 0;
     }
-    if cookie_length(e) == 0 {
-        return 0;
-    }
-    let most = data_room(family, e);
-    if offered < most { offered } else { most }
+    offered.min(data_room(family, e))
 }
 
 // Writes an opening to a server, as the memory has it at the time: an output of under 1,504 bytes is refused. The event has how many bytes of data were sent.
+#[tactic(auto, using(crate::proofs::Step::open_kept, crate::proofs::Step::open_mss), unfolding(crate::specs::Step::step, crate::specs::Step::after, crate::specs::Step::output_of, crate::specs::Refusals::call_check))]
 pub fn connect(
     m: Memory,
     time: u64,
@@ -109,90 +103,38 @@ pub fn connect(
     ensures value { result ≡ step m (Call.connect time own.now server.now o offered.now (length out.old)) }
     ensures out_after { out.new ≡ overwrite (output_of m (Call.connect time own.now server.now o offered.now (length out.old))) out.old }
 {
-    let family = m.family;
-    match check_open(
-        m.started,
-        family,
-        m.clock,
-        time,
-        own,
-        server,
-        o.mss,
-        out.len(),
-    ) {
-        Check::Refused(why) => refused(m, why),
-        Check::Clear => {
-            let b = block_of(server);
-            let banned = is_banned(m, time, b, o.dest);
-            let e = entry_for(m, b);
-            let n = sent_with(family, banned, e, offered.len());
-            let opening = Opening {
-                source: o.source,
-                dest: o.dest,
-                iss: o.iss,
-                mss: o.mss as u16,
-                fast: !banned,
-            };
-            let len = cookie_length(e);
-            let cookie = e.cookie;
-            let written = write_opening(out, own, server, opening, &cookie[..len], &offered[..n]);
-            unremarked(at_time(m, time), Event::Opened(n as u32), written)
-        }
+    if let Err(why) = check_open(&m, time, own, server, o.mss, out.len()) {
+        return refused(m, why);
     }
-}
-
-fn is_given(mss: Mss) -> bool
-    ensures { result ≡ is_given mss }
-{
-    match mss {
-        Mss::NotGiven => false,
-        Mss::Given(_) => true,
-    }
-}
-
-// Stores what an answer brings, if it brings a cookie or a segment size.
-fn learn(m: Memory, b: [u8; 16], cookie: &[u8], mss: Mss) -> Memory
-    requires { length cookie.now ≤ 16 }
-    ensures { result ≡ with_cache m (cache_after b cookie.now mss m.cache) }
-{
-    if cookie.len() == 0 {
-        if !is_given(mss) {
-            return m;
-        }
-    }
-    let old = entry_for(m, b);
-    remember(m, learned(old, b, cookie, mss))
+    let b = block_of(server);
+    let name = Name {
+        addr: b,
+        port: o.dest,
+    };
+    let banned = is_banned(&m.bans, time, name);
+    let stored = entry_for(&m.cache, b);
+    let n = sent_with(m.family, banned, stored, offered.len());
+    let opening = Opening {
+        source: o.source,
+        dest: o.dest,
+        iss: o.iss,
+        mss: o.mss as u16,
+        fast: !banned,
+    };
+    let cookie = stored_cookie(stored);
+    let written = write_opening(out, own, server, opening, cookie.as_slice(), &offered[..n]);
+    unremarked(at_time(m, time), Event::Opened(n as u32), written)
 }
 
 // Whether an answer is negative: data was sent, none is acknowledged, and no cookie comes.
 fn is_negative(sent: u32, acknowledged: u32, fast: FastOpenOption) -> bool
     ensures { result ≡ is_unacknowledged sent acknowledged && not (has_cookie fast) }
 {
-    if sent == 0 {
-        return false;
-    }
-    if acknowledged != 0 {
-        return false;
-    }
-    match fast {
-        FastOpenOption::Absent => true,
-        FastOpenOption::Request(_) => true,
-        FastOpenOption::Cookie { .. } => false,
-    }
-}
-
-// Bans the server if the answer was negative.
-fn ban_if(m: Memory, time: u64, b: [u8; 16], port: u16, negative: bool) -> Memory
-    requires { time ≤ last_time }
-    ensures { result ≡ with_bans m (bans_after time b port negative m.bans) }
-{
-    if negative {
-        return set_ban(m, time, b, port);
-    }
-    m
+    sent != 0 && acknowledged == 0 && !matches!(fast, FastOpenOption::Cookie { .. })
 }
 
 // Takes the answer to an attempt, whose Fast Open option counts in these codings. The event has how many bytes of the data sent it acknowledges.
+#[tactic(auto, using(crate::proofs::After::brought_is, crate::proofs::After::brought_most))]
 pub fn answer(
     m: Memory,
     time: u64,
@@ -204,36 +146,39 @@ pub fn answer(
 ) -> Outcome
     ensures { result ≡ step m (Call.answer time own.now server.now a seg.now codings) }
 {
-    let family = m.family;
-    let next = at_time(m, time);
-    match check_answer(m.started, family, m.clock, time, own, server, a, seg) {
-        Reply::Dropped(why) => refused(m, why),
-        Reply::Acknowledged(n) => {
-            let b = block_of(server);
-            let found = segment_options(codings, seg);
-            let options = found.options;
-            let remarks = found.remarks;
-            let fast = options.fast;
-            let mss = options.mss;
-            let known = learn(next, b, cookie(option_area(seg), fast), mss);
-            let negative = is_negative(a.sent, n, fast);
-            let learnt = ban_if(known, time, b, a.dest, negative);
-            new_outcome(learnt, Event::Answered(n), 0, remarks)
-        }
+    let n = match check_answer(&m, time, own, server, a, seg) {
+        Err(why) => return refused(m, why),
+        Ok(n) => n,
+    };
+    let b = block_of(server);
+    let found = segment_options(codings, seg);
+    let options = found.options;
+    let area = option_area(seg);
+    let mut next = at_time(m, time);
+    learn(&mut next.cache, b, cookie(area, options.fast), options.mss);
+    if is_negative(a.sent, n, options.fast) {
+        let name = Name {
+            addr: b,
+            port: a.dest,
+        };
+        set_ban(&mut next.bans, time, name);
     }
+    new_outcome(next, Event::Answered(n), 0, found.remarks)
 }
 
 // Takes the report that an attempt at a server timed out or met an ICMP error: the server is banned for 600,000 ms.
+#[tactic(auto, using(crate::proofs::Step::failed_kept), unfolding(crate::specs::Step::step, crate::specs::Step::after, crate::specs::Refusals::call_check))]
 pub fn failed(m: Memory, time: u64, server: &[u8], port: u16) -> Outcome
     ensures { result ≡ step m (Call.failed time server.now port) }
 {
-    let family = m.family;
-    match check_name(m.started, family, m.clock, time, server) {
-        Check::Refused(why) => refused(m, why),
-        Check::Clear => {
-            let b = block_of(server);
-            let next = set_ban(m, time, b, port);
-            unremarked(at_time(next, time), Event::Reported, 0)
-        }
+    if let Err(why) = check_name(m.started, m.family, m.clock, time, server) {
+        return refused(m, why);
     }
+    let mut next = at_time(m, time);
+    let name = Name {
+        addr: block_of(server),
+        port,
+    };
+    set_ban(&mut next.bans, time, name);
+    unremarked(next, Event::Reported, 0)
 }

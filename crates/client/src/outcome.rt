@@ -5,7 +5,7 @@ ghost use Rattle.client.specs.Step.{outcome};
 
 use crate::state::Memory;
 use segment::options::Remarks;
-use segment::refusal::{Check, Refusal, number};
+use segment::refusal::Refusal;
 
 // An opening to be made, RFC 9293's active OPEN: own port, the server's port, our initial number, and own MSS.
 #[derive(Clone, Copy, Drop)]
@@ -47,7 +47,7 @@ pub struct Outcome {
 #[derive(Clone, Copy, Drop)]
 pub struct Started {
     pub memory: Memory,
-    pub check: Check,
+    pub check: Result<(), Refusal>,
 }
 
 // What a call comes to. Every outcome is made here.
@@ -67,10 +67,8 @@ pub fn event_number(e: Event) -> u8
     ensures { result ≡ number_of_event e }
 {
     match e {
-        Event::Refused(why) => number(why),
-        Event::Opened(_) => 0,
-        Event::Answered(_) => 0,
-        Event::Reported => 0,
+        Event::Refused(why) => u8::from(why),
+        Event::Opened(_) | Event::Answered(_) | Event::Reported => 0,
     }
 }
 
@@ -79,9 +77,7 @@ pub fn event_count(e: Event) -> u32
     ensures { result ≡ count_of e }
 {
     match e {
-        Event::Refused(_) => 0,
-        Event::Opened(n) => n,
-        Event::Answered(n) => n,
-        Event::Reported => 0,
+        Event::Opened(n) | Event::Answered(n) => n,
+        Event::Refused(_) | Event::Reported => 0,
     }
 }

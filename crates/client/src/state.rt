@@ -9,7 +9,7 @@ pub const PLACES: usize = 32;
 // The cookie cache, the most recent first; the bans; what the start fixed; and the last accepted time.
 #[derive(Clone, Copy, Drop)]
 pub struct Memory {
-    pub cache: [Entry; PLACES],
+    pub cache: [Option<Entry>; PLACES],
     pub bans: [Ban; PLACES],
     pub started: bool,
     pub family: Family,

@@ -2,22 +2,16 @@
 use Prim.Native.Nat.{ℕ, min}
 use mathlib.Core.Path.{◌≡◌, refl, ◌∙◌}
 use mathlib.Core.List.{List}
-use mathlib.Core.Option.{Option, some}
+use Rattle.std.specs.Prelude.{Option, Some}
 use lib.ListN.{length, take, replicate, length-replicate}
 use Rattle.client.specs.declared.state.Memory.{Memory}
-use Rattle.client.specs.declared.outcome.Outcome.{Outcome}
-use Rattle.client.specs.Call.{number_of_event}
 use Rattle.text.specs.Put.{laid}
 use Rattle.text.proofs.Arguments.{take-replicate}
-use Rattle.text.proofs.Puts.{Put}
 use Rattle.client_player.specs.Request.{Request, request_in}
-use Rattle.client_player.specs.Line.{outcome_line}
-use Rattle.client_player.specs.Play.{outcome_of, lent_to, lent_then, playing_with, request_playing, played_in}
+use Rattle.client_player.specs.Play.{lent_to, playing_with, request_playing}
 use Rattle.client_player.specs.Order.{out_length, request_with, request_read}
-use Rattle.text.specs.declared.line.Reply.TheVariants.{Number}
-use Rattle.client_player.specs.declared.play.Played.{Played}
-use Rattle.client_player.specs.declared.read.Reading.{Reading}
-use Rattle.client_player.specs.declared.read.Reading.TheVariants.{Known}
+use Rattle.text.specs.declared.play.Played.{Played}
+use Rattle.text.specs.Play.{played_in}
 use Rattle.client_player.specs.declared.read.Order.{Order}
 use Rattle.client_player.specs.declared.read.Order.TheVariants.{Start, Open, Answer, Failed}
 
@@ -31,21 +25,13 @@ module _ (m : Memory) (o : Order) (a b d : List ℕ) where
 
   -- an order that was read, with the first bytes of the output
   lending : (lent : List ℕ) (q : Option Request) → lent ≡ take (out_length o) (replicate 2048 165)
-      → some (request_with o a b d (min (out_length o) 2048)) ≡ q → playing_with m (request_with o a b d (length lent)) lent ≡ request_playing m q
+      → Some (request_with o a b d (min (out_length o) 2048)) ≡ q → playing_with m (request_with o a b d (length lent)) lent ≡ request_playing m q
   lending lent q e h =
       let f : lent ≡ replicate (min (out_length o) 2048) 165 = e ∙ take-replicate (out_length o) 2048 165 in
       rw (← h, lent_to_by o, f, length-replicate {A = ℕ} (min (out_length o) 2048) 165)
 
-  pub ordered : (s text : List ℕ) {k : Reading} {lent text' : List ℕ} {r : Played} → k ≡ Known o → request_read k a b d ≡ request_in s
+  pub ordered : (s text : List ℕ) {k : Option Order} {lent text' : List ℕ} {r : Played Memory} → k ≡ Some o → request_read k a b d ≡ request_in s
       → lent ≡ take (out_length o) (replicate 2048 165) → r ≡ played_in (length text) (playing_with m (request_with o a b d (length lent)) lent)
       → text' ≡ laid 0 (playing_with m (request_with o a b d (length lent)) lent).text text
       → (r ≡ played_in (length text) (request_playing m (request_in s))) × (text' ≡ laid 0 (request_playing m (request_in s)).text text)
   ordered s text {lent} h q e f g = rw (← lending lent (request_in s) e (rw h at q)) (f, g)
-
-  -- an order's outcome, put as text
-  pub played : (lent text : List ℕ) {x : Outcome} {lent' text' : List ℕ} {len n : ℕ}
-      → x ≡ outcome_of m (request_with o a b d (length lent)) → lent' ≡ lent_then m (request_with o a b d (length lent)) lent → n ≡ number_of_event x.event
-      → Put text 0 (outcome_line x lent') len text'
-      → (record { memory = x.memory; reply = Number n; len = len } ≡ played_in (length text) (playing_with m (request_with o a b d (length lent)) lent))
-      × (text' ≡ laid 0 (playing_with m (request_with o a b d (length lent)) lent).text text)
-  played lent text e f h p = rw (← e, ← f, ← h) (rw p.0, p.1)

@@ -1,9 +1,7 @@
 -- The replay format (docs/REPLAY.md), "Lines out", of `client_replay`. What an event is in 01's words is the client's.
 -- Assumes nothing.
-use Rattle.std.specs.Prelude.{ℕ, Bool, List, ◌∷◌, length, take}
-use Rattle.segment.specs.declared.refusal.Check.{Check}
-use Rattle.segment.specs.declared.refusal.Check.TheVariants.{Clear}
-use Rattle.segment.specs.declared.refusal.Check.TheVariants.{Refused as CheckRefused}
+use Rattle.std.specs.Prelude.{ℕ, Bool, List, ◌∷◌, length, take, Err, Ok}
+use Rattle.segment.specs.Refusal.{Check}
 use Rattle.client.specs.declared.outcome.Event.{Event}
 use Rattle.client.specs.declared.outcome.Event.TheVariants.{Refused, Reported}
 use Rattle.client.specs.Call.{number_of_event, count_of}
@@ -30,5 +28,5 @@ outcome_line o lent = line_of o.event (take o.written lent) (is_kept o.written l
 
 -- a start prints like a report
 abbrev pub event_of : Check → Event
-event_of Clear = Reported
-event_of (CheckRefused why) = Refused why
+event_of (Ok _) = Reported
+event_of (Err why) = Refused why

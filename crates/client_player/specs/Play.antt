@@ -1,7 +1,6 @@
 -- The replay format (docs/REPLAY.md): what playing a line on a client's memory comes to.
 -- Assumes nothing.
-use Rattle.std.specs.Prelude.{ℕ, cond, List, [], ltb, length, replicate}
-use Rattle.std.proofs.Math.Option.{Option, none, some}
+use Rattle.std.specs.Prelude.{ℕ, List, Option, Some, None, replicate}
 use Rattle.lists.specs.Bytes.{overwrite}
 use Rattle.segment.specs.Remarks.{no_remarks}
 use Rattle.client.specs.declared.state.Memory.{Memory}
@@ -9,13 +8,10 @@ use Rattle.client.specs.declared.outcome.Outcome.{Outcome}
 use Rattle.client.specs.declared.outcome.Started.{Started}
 use Rattle.client.specs.Call.{connect, answer, failed, number_of_event}
 use Rattle.client.specs.Step.{start_of, outcome, step, output_of}
-use Rattle.text.specs.Line.{longest, is_silent}
-use Rattle.text.specs.Put.{place_after, bad_line}
+use Rattle.text.specs.Play.{Playing, bad_playing, line_playing}
 use Rattle.client_player.specs.Request.{Request, start, call, request_in}
 use Rattle.client_player.specs.Line.{outcome_line, event_of}
-use Rattle.text.specs.declared.line.Reply.{Reply}
-use Rattle.text.specs.declared.line.Reply.TheVariants.{Silent, Bad, Number}
-use Rattle.client_player.specs.declared.play.Played.{Played}
+use Rattle.text.specs.declared.line.Reply.TheVariants.{Number}
 
 -- A start's outcome is that of a report.
 abbrev pub start_outcome : Started → Outcome
@@ -39,34 +35,18 @@ lent_then m (call (connect t own server o offered out)) lent = overwrite (output
 lent_then m (call (answer t own server a seg g)) lent = lent
 lent_then m (call (failed t server port)) lent = lent
 
--- What a line comes to: the memory next, the reply, and the text that is printed.
-pub record Playing : Type 0 where
-  pub memory : Memory
-  pub reply : Reply
-  pub text : List ℕ
-
 -- an outcome's, with the output as it is after the request
-abbrev pub outcome_playing : Outcome → List ℕ → Playing
-outcome_playing o lent = record { memory = o.memory; reply = Number (number_of_event o.event); text = outcome_line o lent }
+abbrev pub outcome_playing : Outcome → List ℕ → Playing Memory
+outcome_playing o lent = record { state = o.memory; reply = Number (number_of_event o.event); text = outcome_line o lent }
 
 -- a request that is lent these bytes
-abbrev pub playing_with : Memory → Request → List ℕ → Playing
+abbrev pub playing_with : Memory → Request → List ℕ → Playing Memory
 playing_with m q lent = outcome_playing (outcome_of m q) (lent_then m q lent)
 
--- a bad line changes nothing
-abbrev pub bad_playing : Memory → Playing
-bad_playing m = record { memory = m; reply = Bad; text = bad_line }
-
-abbrev pub request_playing : Memory → Option Request → Playing
-request_playing m none = bad_playing m
-request_playing m (some q) = playing_with m q (replicate (lent_to q) 165)
+abbrev pub request_playing : Memory → Option Request → Playing Memory
+request_playing m None = bad_playing m
+request_playing m (Some q) = playing_with m q (replicate (lent_to q) 165)
 
 -- A line of n bytes; of one longer than is read, s is the start.
-unfoldable pub playing : Memory → List ℕ → ℕ → Playing
-playing m s n =
-    cond (is_silent s) (record { memory = m; reply = Silent; text = [] })
-    (cond (ltb longest n) (bad_playing m) (request_playing m (request_in s)))
-
--- what is played where the text goes to a buffer of so many bytes, which takes as much as fits
-abbrev pub played_in : ℕ → Playing → Played
-played_in n p = record { memory = p.memory; reply = p.reply; len = place_after 0 (length p.text) n }
+abbrev pub playing : Memory → List ℕ → ℕ → Playing Memory
+playing m s n = line_playing (λ m s. request_playing m (request_in s)) m s n

@@ -2,72 +2,17 @@
 // complete, so that the program can be driven through a pipe.
 #![tactic(auto)]
 
-ghost use Rattle.std.specs.Prelude.{◌-◌, ◌≤◌};
-
 use client::calls::never_started;
-use client::state::Memory;
-use client_player::play::play_line;
-use console::streams::{Console, Streams};
-use std::io::Stdin;
-use text::line::LONGEST;
-use text::part::first;
-use text::reader::{INPUT, Reader, new_reader, read_if_used_up, take_next};
-
-// The buffer for an outcome's line: its longest word is an opening of 1,480 bytes, at two digits each.
-const TEXT: usize = 4096;
-
-#[derive(Drop)]
-struct Session {
-    reader: Reader,
-    memory: Memory,
-}
-
-// Plays a line, and prints what it came to.
-fn print_line(streams: &mut Console, m: Memory, line: &[u8], len: usize) -> Memory {
-    let mut text = [0u8; TEXT];
-    let p = play_line(m, line, len, &mut text);
-    let n = p.len;
-    streams.offer(first(&text, n));
-    p.memory
-}
-
-// Takes the next part of the input, and plays the line where that completes one.
-fn play_part(
-    streams: &mut Console,
-    source: &mut Stdin,
-    s: Session,
-    input: &mut [u8; INPUT],
-    line: &mut [u8; LONGEST],
-) -> Session
-    ensures { result.reader.left ≤ s.reader.left - 1 }
-{
-    let r = s.reader;
-    let n = read_if_used_up(source, r, input);
-    let reader = take_next(r, n, input, line);
-    let memory = s.memory;
-    if !reader.complete {
-        return Session { reader, memory };
-    }
-    let len = reader.len;
-    Session {
-        reader,
-        memory: print_line(streams, memory, first(line, len), len),
-    }
-}
+use client_player::play::OnMemory;
+use console::streams::Streams;
+use text::play::play_lines;
 
 fn main(rt: HostRuntime) {
     let mut streams = Streams {
         out: rt.stdout(),
         err: rt.stderr(),
     };
-    let mut source = rt.stdin();
-    let mut input = [0u8; INPUT];
-    let mut line = [0u8; LONGEST];
-    let mut s = Session {
-        reader: new_reader(),
-        memory: never_started(),
-    };
-    while s.reader.left > 0 {
-        s = play_part(&mut streams, &mut source, s, &mut input, &mut line);
-    }
+    play_lines::<OnMemory, _, _>(never_started(), &mut rt.stdin(), |text| {
+        streams.offer(text);
+    });
 }

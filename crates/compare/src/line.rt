@@ -1,9 +1,9 @@
 // The lines that are printed, and those that are told on standard error.
 use comparison::compare::{Finding, Summary};
 use console::streams::Console;
-use segment::refusal::{Check, number};
+use segment::refusal::Refusal;
 use text::part::first;
-use text::put::{put, put_field, put_number, put_number_field};
+use text::put::Text;
 
 // The longest line has two numbers of 20 digits.
 pub(crate) const LONGEST_ENTRY: usize = 42;
@@ -14,47 +14,39 @@ const TOLD: usize = 16384;
 // Tells a name and what is wrong with it.
 pub(crate) fn tell_of(streams: &mut Console, name: &[u8], what: &[u8]) {
     let mut told = [0u8; TOLD];
-    let a = put(&mut told, 0, name);
-    let b = put(&mut told, a, what);
-    streams.tell(first(&told, b));
+    let mut text = Text {
+        out: &mut told,
+        at: 0,
+    };
+    text.put(name);
+    text.put(what);
+    let n = text.at;
+    streams.tell(first(&told, n));
 }
 
 // Tells which line of a file cannot be used, and why.
 pub(crate) fn tell_line(streams: &mut Console, name: &[u8], place: u64, line: &[u8], why: &[u8]) {
     let mut told = [0u8; TOLD];
-    let a = put(&mut told, 0, name);
-    let b = put(&mut told, a, b": line ");
-    let c = put_number(&mut told, b, place);
-    let d = put(&mut told, c, b": ");
-    let e = put(&mut told, d, line);
-    let f = put(&mut told, e, why);
-    streams.tell(first(&told, f));
+    let mut text = Text {
+        out: &mut told,
+        at: 0,
+    };
+    text.put(name);
+    text.put(b": line ");
+    text.put_number(place);
+    text.put(b": ");
+    text.put(line);
+    text.put(why);
+    let n = text.at;
+    streams.tell(first(&told, n));
 }
 
-// Puts a number and a line feed.
-fn put_last(out: &mut [u8], at: usize, n: u64) -> usize {
-    let end = put_number(out, at, n);
-    put(out, end, b"\n")
-}
-
-// Puts `K PLACE` of an entry of the list.
-fn put_entry(out: &mut [u8], at: usize, list: &[u64], i: usize) -> usize {
-    if i < list.len() / 2 {
-        let a = put_number_field(out, at, list[2 * i]);
-        return put_last(out, a, list[2 * i + 1]);
+// Puts `K PLACE` of the entries from one on, up to another.
+fn put_entries(text: &mut Text<'_>, list: &[u64], from: usize, to: usize) {
+    for &[pair, place] in list.as_chunks::<2>().0.iter().take(to).skip(from) {
+        text.put_number_field(pair);
+        text.put_last_number(place);
     }
-    at
-}
-
-// Puts the entries from one on, up to another.
-fn put_entries(out: &mut [u8], list: &[u64], from: usize, to: usize) -> usize {
-    let mut at = 0;
-    let mut i = from;
-    while i < to {
-        at = put_entry(out, at, list, i);
-        i += 1;
-    }
-    at
 }
 
 // Prints the entries that were listed since the last time; `lines` has room for all that may be.
@@ -65,41 +57,46 @@ pub(crate) fn print_entries(
     from: usize,
     to: usize,
 ) -> bool {
-    let n = put_entries(lines, list, from, to);
+    let mut text = Text { out: lines, at: 0 };
+    put_entries(&mut text, list, from, to);
+    let n = text.at;
     streams.print(first(lines, n))
 }
 
-fn number_of(check: Check) -> u8 {
-    match check {
-        Check::Clear => 0,
-        Check::Refused(why) => number(why),
-    }
+fn number_of(check: Result<(), Refusal>) -> u8 {
+    check.err().map_or(0, u8::from)
 }
 
 // Prints the number of the set-up: of its refusal, or 0.
-pub(crate) fn print_check(streams: &mut Console, check: Check) -> bool {
-    let mut text = [0u8; 24];
-    let n = put_last(&mut text, 0, number_of(check) as u64);
-    streams.print(first(&text, n))
+pub(crate) fn print_check(streams: &mut Console, check: Result<(), Refusal>) -> bool {
+    let mut line = [0u8; 24];
+    let mut text = Text {
+        out: &mut line,
+        at: 0,
+    };
+    text.put_last_number(number_of(check) as u64);
+    let n = text.at;
+    streams.print(first(&line, n))
 }
 
-// Puts FED END of a capture.
-fn put_summary(out: &mut [u8], at: usize, s: Summary) -> usize {
-    let end = s.end;
-    let a = put_number_field(out, at, s.fed);
-    put_last(out, a, number_of(end) as u64)
+// Puts FED END of a capture, behind a word for it.
+fn put_summary(text: &mut Text<'_>, word: &[u8], s: Summary) {
+    text.put_field(word);
+    text.put_number_field(s.fed);
+    text.put_last_number(number_of(s.end) as u64);
 }
 
 // Prints the last three lines.
 pub(crate) fn print_finding(streams: &mut Console, f: Finding) -> bool {
-    let mut text = [0u8; 128];
-    let one = f.first;
-    let two = f.second;
-    let a = put_field(&mut text, 0, b"rest");
-    let b = put_last(&mut text, a, f.remaining);
-    let c = put_field(&mut text, b, b"first");
-    let d = put_summary(&mut text, c, one);
-    let e = put_field(&mut text, d, b"second");
-    let n = put_summary(&mut text, e, two);
-    streams.print(first(&text, n))
+    let mut lines = [0u8; 128];
+    let mut text = Text {
+        out: &mut lines,
+        at: 0,
+    };
+    text.put_field(b"rest");
+    text.put_last_number(f.remaining);
+    put_summary(&mut text, b"first", f.first);
+    put_summary(&mut text, b"second", f.second);
+    let n = text.at;
+    streams.print(first(&lines, n))
 }

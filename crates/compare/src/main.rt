@@ -12,14 +12,13 @@ use console::source::{Source, open, try_reading};
 use console::streams::{Console, Streams};
 use line::print_check;
 use protocol::state::Settings;
-use segment::refusal::Check;
-use setup::{SetUp, Start, read_setup};
-use sides::{Files, MOST_ENTRIES, compare_captures};
+use setup::{Start, read_setup};
+use sides::{Capture, Files, MOST_ENTRIES, compare_captures};
 use std::fs::File;
 use std::io;
 use std::io::Read;
 use text::line::MOST_BYTES;
-use text::number::{Number, read_number};
+use text::number::read_number;
 use text::part::first;
 use text::word::is_word;
 
@@ -30,16 +29,17 @@ fn tell_usage(streams: &mut Console) {
     streams.tell(b"usage: compare SETUP CAPTURE CAPTURE [ENTRIES]\n");
 }
 
-// What was opened, if it can be read, which a folder cannot: nothing is printed before that is known. Else that is told.
+// What was opened, if it can be read, which a folder cannot: nothing is printed before that is known.
+fn readable<S: Read + Drop>(opened: io::Result<S>) -> io::Result<S> {
+    let mut source = opened?;
+    try_reading(&mut source)?;
+    Ok(source)
+}
+
+// The same; else that is told.
 fn checked<S: Read + Drop>(streams: &mut Console, opened: io::Result<S>, name: &[u8]) -> Option<S> {
-    match opened {
-        Ok(mut source) => match try_reading(&mut source) {
-            Ok(()) => Some(source),
-            Err(e) => {
-                streams.fail(name, e);
-                None
-            }
-        },
+    match readable(opened) {
+        Ok(source) => Some(source),
         Err(e) => {
             streams.fail(name, e);
             None
@@ -52,13 +52,37 @@ fn is_input(name: &[u8]) -> bool {
     is_word(name, b"-")
 }
 
-// A capture.
-fn open_capture(rt: &HostRuntime, streams: &mut Console, name: &[u8]) -> Option<Source> {
-    if is_input(name) {
-        return Some(Source::Input(rt.stdin()));
+fn open_capture<'a>(
+    rt: &HostRuntime,
+    streams: &mut Console,
+    name: &'a [u8],
+) -> Option<Capture<'a>> {
+    let source = if is_input(name) {
+        Source::Input(rt.stdin())
+    } else {
+        Source::Opened(checked(streams, open(rt, name), name)?)
+    };
+    Some(Capture { name, source })
+}
+
+// Opens the set-up and the captures; standard input comes first, since a file that is opened takes its descriptor where it is closed.
+fn open_files<'a>(
+    rt: &HostRuntime,
+    streams: &mut Console,
+    setup_name: &[u8],
+    name1: &'a [u8],
+    name2: &'a [u8],
+) -> Option<(File, Files<'a>)> {
+    if is_input(name1) || is_input(name2) {
+        checked(streams, Ok(rt.stdin()), b"-")?;
     }
-    let file = checked(streams, open(rt, name), name)?;
-    Some(Source::Opened(file))
+    let setup = checked(streams, open(rt, setup_name), setup_name)?;
+    let files = Files {
+        first: open_capture(rt, streams, name1)?,
+        second: open_capture(rt, streams, name2)?,
+        streams: *streams,
+    };
+    Some((setup, files))
 }
 
 // Makes the two calls and, where none is refused, compares the captures.
@@ -68,74 +92,29 @@ fn set_up_and_compare(
     start: Start,
     settings: Settings,
     files: &mut Files,
-    name1: &[u8],
-    name2: &[u8],
     entries: u64,
 ) {
-    let s = set_up(
-        first(own, start.own),
-        start.port,
-        first(key, start.key),
-        settings,
-    );
-    let l = s.listener;
-    let check = s.check;
-    if !print_check(&mut files.streams, check) {
-        return;
-    }
-    if let Check::Clear = check {
-        compare_captures(l, files, name1, name2, entries);
+    let own = first(own, start.own);
+    let key = first(key, start.key);
+    let s = set_up(own, start.port, key, settings);
+    if print_check(&mut files.streams, s.check) && s.check.is_ok() {
+        compare_captures(s.listener, files, entries);
     }
 }
 
 // With all files open, reads the set-up.
-fn compare_with(
-    setup: &mut File,
-    setup_name: &[u8],
-    files: &mut Files,
-    name1: &[u8],
-    name2: &[u8],
-    entries: u64,
-) {
+fn compare_with(setup: &mut File, setup_name: &[u8], files: &mut Files, entries: u64) {
     let mut own = [0u8; MOST_BYTES];
     let mut key = [0u8; MOST_BYTES];
-    match read_setup(&mut files.streams, setup, setup_name, &mut own, &mut key) {
-        SetUp::Unusable => {}
-        SetUp::Usable(start, settings) => set_up_and_compare(
-            &own, &key, start, settings, files, name1, name2, entries,
-        ),
+    if let Some((start, settings)) = read_setup(
+        &mut files.streams,
+        setup,
+        setup_name,
+        &mut own,
+        &mut key,
+    ) {
+        set_up_and_compare(&own, &key, start, settings, files, entries);
     }
-}
-
-// Opens the three files; standard input comes first, since a file that is opened takes its descriptor where it is closed.
-fn open_and_compare(
-    rt: &HostRuntime,
-    streams: &mut Console,
-    setup_name: &[u8],
-    name1: &[u8],
-    name2: &[u8],
-    entries: u64,
-) {
-    if is_input(name1) || is_input(name2) {
-        if checked(streams, Ok(rt.stdin()), b"-").is_none() {
-            return;
-        }
-    }
-    let Some(mut setup) = checked(streams, open(rt, setup_name), setup_name) else {
-        return;
-    };
-    let Some(one) = open_capture(rt, streams, name1) else {
-        return;
-    };
-    let Some(two) = open_capture(rt, streams, name2) else {
-        return;
-    };
-    let mut files = Files {
-        first: one,
-        second: two,
-        streams: *streams,
-    };
-    compare_with(&mut setup, setup_name, &mut files, name1, name2, entries);
 }
 
 fn run(rt: &HostRuntime, streams: &mut Console, entries: u64) {
@@ -149,14 +128,17 @@ fn run(rt: &HostRuntime, streams: &mut Console, entries: u64) {
         streams.tell(b"compare: only one capture can be standard input\n");
         return;
     }
-    open_and_compare(rt, streams, &path[..n], &path1[..n1], &path2[..n2], entries);
+    let opened = open_files(rt, streams, &path[..n], &path1[..n1], &path2[..n2]);
+    if let Some((mut setup, mut files)) = opened {
+        compare_with(&mut setup, &path[..n], &mut files, entries);
+    }
 }
 
 // ENTRIES, if it is given.
-fn entries_of(rt: &HostRuntime) -> Number {
+fn entries_of(rt: &HostRuntime) -> Option<u64> {
     let mut word = [0u8; ARGUMENT];
     match argument(rt, 4, &mut word) {
-        None => Number::Value(MOST_ENTRIES),
+        None => Some(MOST_ENTRIES),
         Some(n) => read_number(&word[..n], MOST_ENTRIES),
     }
 }
@@ -171,7 +153,7 @@ fn main(rt: HostRuntime) {
         return tell_usage(&mut streams);
     }
     match entries_of(&rt) {
-        Number::Bad => tell_usage(&mut streams),
-        Number::Value(entries) => run(&rt, &mut streams, entries),
+        None => tell_usage(&mut streams),
+        Some(entries) => run(&rt, &mut streams, entries),
     }
 }

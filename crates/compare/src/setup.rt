@@ -1,16 +1,13 @@
 // The set-up: one `start` line and then one `settings` line at time 0, beside comments and empty lines. Both captures are judged by it.
-ghost use Rattle.std.specs.Prelude.{◌-◌, ◌≤◌};
-
 use crate::line::{tell_line, tell_of};
 use console::streams::Console;
-use player::read::{Order, Reading, read_line};
+use player::read::{Order, read_line};
 use protocol::state::Settings;
 use std::io::Read;
-use std::num::wrapping_add_u64;
 use text::line::{LONGEST, MOST_BYTES, is_silent};
 use text::part::first;
-use text::put::put;
-use text::reader::{INPUT, Reader, new_reader, read_if_used_up, take_next};
+use text::put::Text;
+use text::reader::{INPUT, new_reader, read_if_used_up, take_next};
 
 // The start's address and key are given by their lengths: their bytes are at the start of two buffers.
 #[derive(Clone, Copy, Drop)]
@@ -37,65 +34,39 @@ enum Stage {
     Begun,
     Started(Start),
     Whole(Start, Settings),
-    Faulty(Fault),
-}
-
-// What a set-up comes to; where it cannot be used, that was told.
-#[derive(Drop)]
-pub(crate) enum SetUp {
-    Unusable,
-    Usable(Start, Settings),
-}
-
-// How far the file was read, what came of it, and how many lines there were.
-#[derive(Clone, Copy, Drop)]
-struct Session {
-    reader: Reader,
-    stage: Stage,
-    lines: u64,
 }
 
 // The start's bytes are kept: the next line's are read to buffers of their own.
-fn start_in(line: &[u8], own: &mut [u8; MOST_BYTES], key: &mut [u8; MOST_BYTES]) -> Stage {
-    let r = read_line(line);
-    let reading = r.reading;
-    let Reading::Known(order) = reading else {
-        return Stage::Faulty(Fault::BadLine);
-    };
-    let a = r.a;
-    let b = r.b;
-    match order {
+#[tactic(auto, using(text::proofs::Puts::same_reference))]
+fn start_in(
+    line: &[u8],
+    own: &mut [u8; MOST_BYTES],
+    key: &mut [u8; MOST_BYTES],
+) -> Result<Stage, Fault> {
+    let read = read_line(line);
+    match read.order.ok_or(Fault::BadLine)? {
         Order::Start {
             own: own_len,
             port,
             key: key_len,
         } => {
-            put(own, 0, first(&a, own_len));
-            put(key, 0, first(&b, key_len));
-            Stage::Started(Start {
+            Text { out: own, at: 0 }.put(first(&read.a, own_len));
+            Text { out: key, at: 0 }.put(first(&read.b, key_len));
+            Ok(Stage::Started(Start {
                 own: own_len,
                 port,
                 key: key_len,
-            })
+            }))
         }
-        _ => Stage::Faulty(Fault::NoStart),
+        _ => Err(Fault::NoStart),
     }
 }
 
-fn settings_in(start: Start, line: &[u8]) -> Stage {
-    let r = read_line(line);
-    let reading = r.reading;
-    let Reading::Known(order) = reading else {
-        return Stage::Faulty(Fault::BadLine);
-    };
-    match order {
-        Order::Settings { time, settings } => {
-            if time != 0 {
-                return Stage::Faulty(Fault::Later);
-            }
-            Stage::Whole(start, settings)
-        }
-        _ => Stage::Faulty(Fault::NoSettings),
+fn settings_in(start: Start, line: &[u8]) -> Result<Stage, Fault> {
+    match read_line(line).order.ok_or(Fault::BadLine)? {
+        Order::Settings { time: 0, settings } => Ok(Stage::Whole(start, settings)),
+        Order::Settings { .. } => Err(Fault::Later),
+        _ => Err(Fault::NoSettings),
     }
 }
 
@@ -106,114 +77,73 @@ fn stage_after(
     len: usize,
     own: &mut [u8; MOST_BYTES],
     key: &mut [u8; MOST_BYTES],
-) -> Stage {
+) -> Result<Stage, Fault> {
     if is_silent(line) {
-        return stage;
+        return Ok(stage);
     }
     if len > LONGEST {
-        return Stage::Faulty(Fault::TooLong);
+        return Err(Fault::TooLong);
     }
     match stage {
         Stage::Begun => start_in(line, own, key),
         Stage::Started(start) => settings_in(start, line),
-        Stage::Whole(_, _) => Stage::Faulty(Fault::OneMore),
-        Stage::Faulty(fault) => Stage::Faulty(fault),
+        Stage::Whole(_, _) => Err(Fault::OneMore),
     }
 }
 
-// Tells which line cannot be used, if this one cannot.
-fn tell_fault(streams: &mut Console, name: &[u8], place: u64, line: &[u8], stage: Stage) {
-    let Stage::Faulty(fault) = stage else {
-        return;
-    };
+fn words_of(fault: Fault) -> &'static [u8] {
     match fault {
-        Fault::TooLong => tell_line(streams, name, place, line, b" (longer than 8,192 bytes)\n"),
-        Fault::BadLine => tell_line(streams, name, place, line, b" (bad line)\n"),
-        Fault::NoStart => tell_line(streams, name, place, line, b" (not a start line)\n"),
-        Fault::NoSettings => tell_line(streams, name, place, line, b" (not a settings line)\n"),
-        Fault::Later => tell_line(streams, name, place, line, b" (not at time 0)\n"),
-        Fault::OneMore => tell_line(streams, name, place, line, b" (one line too many)\n"),
-    }
-}
-
-// Takes the next part of the file, and what its line adds where that completes one.
-fn read_part<R: Read>(
-    streams: &mut Console,
-    source: &mut R,
-    name: &[u8],
-    s: Session,
-    input: &mut [u8; INPUT],
-    line: &mut [u8; LONGEST],
-    own: &mut [u8; MOST_BYTES],
-    key: &mut [u8; MOST_BYTES],
-) -> Session
-    ensures { result.reader.left ≤ s.reader.left - 1 }
-{
-    let r = s.reader;
-    let stage = s.stage;
-    let n = read_if_used_up(source, r, input);
-    let reader = take_next(r, n, input, line);
-    if !reader.complete {
-        return Session {
-            reader,
-            stage,
-            lines: s.lines,
-        };
-    }
-    let lines = wrapping_add_u64(s.lines, 1);
-    let len = reader.len;
-    let next = stage_after(stage, first(line, len), len, own, key);
-    tell_fault(streams, name, lines, first(line, len), next);
-    Session {
-        reader,
-        stage: next,
-        lines,
-    }
-}
-
-fn is_faulty(s: Session) -> bool {
-    let stage = s.stage;
-    if let Stage::Faulty(_) = stage {
-        true
-    } else {
-        false
+        Fault::TooLong => b" (longer than 8,192 bytes)\n",
+        Fault::BadLine => b" (bad line)\n",
+        Fault::NoStart => b" (not a start line)\n",
+        Fault::NoSettings => b" (not a settings line)\n",
+        Fault::Later => b" (not at time 0)\n",
+        Fault::OneMore => b" (one line too many)\n",
     }
 }
 
 // What the file came to; one that ended early is told.
-fn setup_of(streams: &mut Console, stage: Stage, name: &[u8]) -> SetUp {
+fn setup_of(streams: &mut Console, stage: Stage, name: &[u8]) -> Option<(Start, Settings)> {
     match stage {
         Stage::Begun => {
             tell_of(streams, name, b": no start line\n");
-            SetUp::Unusable
+            None
         }
         Stage::Started(_) => {
             tell_of(streams, name, b": no settings line\n");
-            SetUp::Unusable
+            None
         }
-        Stage::Whole(start, settings) => SetUp::Usable(start, settings),
-        Stage::Faulty(_) => SetUp::Unusable,
+        Stage::Whole(start, settings) => Some((start, settings)),
     }
 }
 
-// Reads all of it, up to a line that cannot be used.
+// Reads all of it, up to a line that cannot be used; that is told.
 pub(crate) fn read_setup<R: Read>(
     streams: &mut Console,
     source: &mut R,
     name: &[u8],
     own: &mut [u8; MOST_BYTES],
     key: &mut [u8; MOST_BYTES],
-) -> SetUp {
+) -> Option<(Start, Settings)> {
     let mut input = [0u8; INPUT];
     let mut line = [0u8; LONGEST];
-    let mut s = Session {
-        reader: new_reader(),
-        stage: Stage::Begun,
-        lines: 0,
-    };
-    while s.reader.left > 0 && !is_faulty(s) {
-        s = read_part(streams, source, name, s, &mut input, &mut line, own, key);
+    let mut reader = new_reader();
+    let mut stage = Stage::Begun;
+    let mut lines: u64 = 0;
+    while reader.left > 0 {
+        let n = read_if_used_up(source, reader, &mut input);
+        reader = take_next(reader, n, &input, &mut line);
+        if reader.complete {
+            lines = lines.wrapping_add(1);
+            let whole = first(&line, reader.len);
+            match stage_after(stage, whole, reader.len, own, key) {
+                Ok(next) => stage = next,
+                Err(fault) => {
+                    tell_line(streams, name, lines, whole, words_of(fault));
+                    return None;
+                }
+            }
+        }
     }
-    let stage = s.stage;
     setup_of(streams, stage, name)
 }

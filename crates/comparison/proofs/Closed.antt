@@ -1,11 +1,10 @@
 -- The list of all differences, entry by entry, is the whole list as far as the room goes, and the rest counted. Assumes nothing.
+use Rattle.std.specs.Prelude.{Option, None, Some}
 use Rattle.std.proofs.Common.{◌≡◌, ℕ, suc, ◌+◌, ◌-◌, ◌*◌, ◌^◌, ◌<◌, ◌≤◌, Bool, true, false, cond, ltb, List, [], ◌∷◌, length, take, drop, sym, refl, ap, ◌∙◌, mod-eq_of_lt, arith, ltb-false, ltb-true}
 use lib.Seq.{take-nil, drop-nil, sets, length-sets}
 use Rattle.comparison.specs.Account.{Judged}
 use Rattle.comparison.specs.Difference.{difference_of}
 use Rattle.comparison.specs.Listing.{Entry, unpaired, before, entries, numbers_of, fitting, more, noted, list_with, counted, tallied, list_then}
-use Rattle.comparison.specs.declared.difference.Difference.{Difference}
-use Rattle.comparison.specs.declared.difference.Difference.TheVariants.{Same, At}
 use Rattle.comparison.specs.declared.list.Tally.{Tally}
 use Rattle.comparison.specs.ToCome.{tally_all, list_all, fed_all}
 
@@ -21,7 +20,7 @@ one_more k h = mod-eq_of_lt h
 module _ (n : ℕ) (t : Tally) (list : List ℕ) (size : length list ≡ n) where
   -- one entry
   closed_at : (place : ℕ) (es : List Entry) → t.remaining + 1 < 2 ^ 64 → (last : Tally) (end : List ℕ)
-      → Closed n (tallied n t (At place)) (list_then t (At place) list) es last end
+      → Closed n (tallied n t (Some place)) (list_then t (Some place) list) es last end
       → Closed n t list (record { pair = t.pairs; place = place } ∷ es) last end
   unfolding noted list_with
   closed_at place es h last end i = go (ltb t.listed (fitting n)) refl
@@ -49,16 +48,16 @@ module _ (n : ℕ) (t : Tally) (list : List ℕ) (size : length list ≡ n) wher
             numbers = rw q numbers;
           }
 
-  closed_step : (d : Difference) (es : List Entry) → t.remaining + 1 < 2 ^ 64 → (last : Tally) (end : List ℕ)
+  closed_step : (d : Option ℕ) (es : List Entry) → t.remaining + 1 < 2 ^ 64 → (last : Tally) (end : List ℕ)
       → Closed n (tallied n t d) (list_then t d list) es last end → Closed n t list (before t.pairs d es) last end
-  closed_step Same es h last end i = record { listed = i.listed; remaining = i.remaining; numbers = i.numbers }
-  closed_step (At place) es h last end i = closed_at place es h last end i
+  closed_step None es h last end i = record { listed = i.listed; remaining = i.remaining; numbers = i.numbers }
+  closed_step (Some place) es h last end i = closed_at place es h last end i
 
   -- the room keeps its size
-  pub size-after : (d : Difference) → length (list_then t d list) ≡ n
+  pub size-after : (d : Option ℕ) → length (list_then t d list) ≡ n
   unfolding list_with
-  size-after Same = size
-  size-after (At place) = go (ltb t.listed (fitting (length list)))
+  size-after None = size
+  size-after (Some place) = go (ltb t.listed (fitting (length list)))
     where
       go : (b : Bool) → length (cond b (sets list (2 * t.listed) (t.pairs ∷ place ∷ [])) list) ≡ n
       go true = length-sets list (2 * t.listed) (t.pairs ∷ place ∷ []) ∙ size
@@ -69,10 +68,10 @@ record Next (t next : Tally) : Type 0 where
   pairs : next.pairs ≡ more t.pairs
   remaining : next.remaining ≤ t.remaining + 1
 
-next_of : (n : ℕ) (t : Tally) (d : Difference) → t.remaining + 1 < 2 ^ 64 → Next t (tallied n t d)
+next_of : (n : ℕ) (t : Tally) (d : Option ℕ) → t.remaining + 1 < 2 ^ 64 → Next t (tallied n t d)
 unfolding noted
-next_of n t Same h = record { pairs = refl; remaining = omega arith }
-next_of n t (At place) h = go (ltb t.listed (fitting n))
+next_of n t None h = record { pairs = refl; remaining = omega arith }
+next_of n t (Some place) h = go (ltb t.listed (fitting n))
   where
     go : (b : Bool) → Next t (counted (cond b
         (record { pairs = t.pairs; listed = t.listed + 1; remaining = t.remaining })
@@ -86,7 +85,7 @@ pub record Fits (n : ℕ) (t : Tally) (list : List ℕ) (k : ℕ) : Type 0 where
   pub pairs : t.pairs ≡ k
   pub remaining : t.remaining ≤ k
 
-fits_next : (n : ℕ) (t : Tally) (list : List ℕ) (k : ℕ) → Fits n t list k → k + 1 < 2 ^ 64 → (d : Difference) → Fits n (tallied n t d) (list_then t d list) (k + 1)
+fits_next : (n : ℕ) (t : Tally) (list : List ℕ) (k : ℕ) → Fits n t list k → k + 1 < 2 ^ 64 → (d : Option ℕ) → Fits n (tallied n t d) (list_then t d list) (k + 1)
 fits_next n t list k f h d =
     let e = next_of n t d (omega (arith, f.remaining)) in
     record {
@@ -96,7 +95,7 @@ fits_next n t list k f h d =
     }
 
 -- a pair before those to come
-closed_pair : (n : ℕ) (t : Tally) (list : List ℕ) (k : ℕ) → Fits n t list k → k + 1 < 2 ^ 64 → (d : Difference) (es : List Entry) (last : Tally) (end : List ℕ)
+closed_pair : (n : ℕ) (t : Tally) (list : List ℕ) (k : ℕ) → Fits n t list k → k + 1 < 2 ^ 64 → (d : Option ℕ) (es : List Entry) (last : Tally) (end : List ℕ)
     → Closed n (tallied n t d) (list_then t d list) es last end → Closed n t list (before k d es) last end
 closed_pair n t list k f h d es last end i =
     rw (sym f.pairs) (closed_step n t list f.size d es (omega (arith, f.remaining)) last end i)

@@ -1,22 +1,20 @@
 -- A comparison is complete, lists the first differences, and does not depend on the order of the captures. Assumes nothing.
-use Rattle.std.proofs.Common.{◌≡◌, ℕ, zero, suc, ◌+◌, ◌*◌, Bool, true, false, cond, ◌&&◌, eqb, List, [], ◌∷◌, length, take, drop, sym, refl, ap, ◌∙◌, subst, ap₂, arith, length-append, take-append-drop, take_at, drop_at, eq-eqb, eqb-true}
+use Rattle.std.specs.Prelude.{Err, Ok, None, Some}
+use Rattle.std.proofs.Common.{◌≡◌, ℕ, zero, suc, ◌+◌, ◌*◌, Bool, true, false, cond, ◌&&◌, eqb, List, [], ◌∷◌, length, take, drop, sym, refl, ap, ◌∙◌, subst, ap₂, arith, length-append, length-drop, take-append-drop, take_at, drop_at, eq-eqb, eqb-true}
 use mathlib.Core.Bool.{false≢true}
 use lib.Seq.{take-nil, drop-nil}
+use Rattle.std.proofs.lemmas.List.{length-take, nil_from_length, take_min}
 use Rattle.lists.specs.Bytes.{same_bytes, overwrite}
 use Rattle.lists.proofs.Bools.{and_true, one_test}
 use Rattle.lists.proofs.SameBytes.{same_bytes_eq, same_bytes_refl}
-use Rattle.segment.specs.declared.refusal.Check.{Check}
-use Rattle.segment.specs.declared.refusal.Check.TheVariants.{Clear, Refused}
+use Rattle.segment.specs.Refusal.{Check}
 use Rattle.protocol.specs.Call.{number_of_event, SegmentKind, opening, reset, completion, none, kind_of_event, Verdict, early, plain, repeat, no_verdict, verdict_of}
-use Rattle.protocol.specs.declared.outcome.Event.{Event}
 use Rattle.protocol.specs.declared.outcome.Started.{Started}
 use Rattle.comparison.specs.Account.{Judged, Account, account_of}
 use Rattle.comparison.specs.Difference.{kind_rank, verdict_rank, same_event, same, parting, difference_of}
 use Rattle.comparison.specs.Listing.{Entry, unpaired, before, entries, numbers_of, fitting}
 use Rattle.comparison.specs.Compared.{differences, finding_of, listed_in, compared_by, compared_of, room_by, room_of}
 use Rattle.comparison.specs.Laws.{Seen, seen_of, seen, Complete, FirstOnes, swapped, swapped_by, Swaps}
-use Rattle.comparison.specs.declared.difference.Difference.TheVariants.{Same, At}
-use Rattle.comparison.specs.declared.compare.Compared.TheVariants as compared
 use Rattle.comparison.proofs.Whole.{length_numbers}
 
 -- Two records are the same exactly where what is seen of them is
@@ -96,7 +94,7 @@ none_alike (x ∷ xs) [] k e = absurd (subst Filled e tt)
 none_alike [] (y ∷ ys) k e = absurd (subst Filled e tt)
 none_alike (x ∷ xs) (y ∷ ys) k e = go (same x y) refl (none_alike xs ys (k + 1)) e
   where
-    go : (t : Bool) → same x y ≡ t → (entries (k + 1) xs ys ≡ [] → seen xs ≡ seen ys) → before k (cond t Same (At (parting x.output y.output))) (entries (k + 1) xs ys) ≡ [] → seen (x ∷ xs) ≡ seen (y ∷ ys)
+    go : (t : Bool) → same x y ≡ t → (entries (k + 1) xs ys ≡ [] → seen xs ≡ seen ys) → before k (cond t None (Some (parting x.output y.output))) (entries (k + 1) xs ys) ≡ [] → seen (x ∷ xs) ≡ seen (y ∷ ys)
     go true s later q = ap₂ (λ (h : Seen) (t : List Seen). h ∷ t) (same_seen x y s) (later q)
     go false s later q = absurd (subst Filled q tt)
 
@@ -109,13 +107,9 @@ alike-none (x ∷ xs) (y ∷ ys) k e =
     let s : same x y ≡ true = seen_same x y (ap (head_seen (seen_of x)) e) in
     go (same x y) s (alike-none xs ys (k + 1) (ap tail_seen e))
   where
-    go : (t : Bool) → t ≡ true → entries (k + 1) xs ys ≡ [] → before k (cond t Same (At (parting x.output y.output))) (entries (k + 1) xs ys) ≡ []
+    go : (t : Bool) → t ≡ true → entries (k + 1) xs ys ≡ [] → before k (cond t None (Some (parting x.output y.output))) (entries (k + 1) xs ys) ≡ []
     go true s i = i
     go false s i = absurd (false≢true s)
-
-empty : {A : Type 0} (xs : List A) → length xs ≡ 0 → xs ≡ []
-empty [] e = refl
-empty (x ∷ xs) e = absurd (omega arith)
 
 pub complete : (a b : Account) (n : ℕ) → Complete a b n
 unfolding finding_of differences
@@ -124,7 +118,7 @@ complete a b n =
     record {
       alike = λ l r.
           let sum = ap length (take-append-drop (fitting n) es) in
-          none_alike a.answers b.answers 0 (empty es (omega (arith, l, r, sum, length-append (take (fitting n) es) (drop (fitting n) es))));
+          none_alike a.answers b.answers 0 (nil_from_length es (omega (arith, l, r, sum, length-append (take (fitting n) es) (drop (fitting n) es))));
       nothing = λ s.
           let e = alike-none a.answers b.answers 0 s in (
             ap (λ (x : List Entry). length (take (fitting n) x)) e ∙ rw (take-nil {A = Entry} (fitting n)),
@@ -135,14 +129,10 @@ complete a b n =
 -- The first of the list
 
 take_own : (m : ℕ) (es : List Entry) → take (length (take m es)) es ≡ take m es
-take_own zero es = refl
-take_own (suc m) [] = refl
-take_own (suc m) (e ∷ es) = ap (λ (x : List Entry). e ∷ x) (take_own m es)
+take_own m es = rw (length-take m es) (take_min m es)
 
 room-full : (m : ℕ) (es : List Entry) → (length (drop m es) ≡ 0 → ⊥) → length (take m es) ≡ m
-room-full zero es n = refl
-room-full (suc m) [] n = absurd (n refl)
-room-full (suc m) (e ∷ es) n = ap suc (room-full m es n)
+room-full m es n = omega (arith, n, length-take m es, length-drop m es)
 
 pub first_ones : (a b : Account) (list : List ℕ) → FirstOnes a b list
 unfolding finding_of listed_in
@@ -162,13 +152,6 @@ first_ones a b list =
 eqb_turned : (m n : ℕ) → eqb m n ≡ eqb n m
 eqb_turned m n = one_test (eqb m n) (eqb n m) (λ e. eq-eqb n m (sym (eqb-true m n e))) (λ e. eq-eqb m n (sym (eqb-true n m e)))
 
-bytes_turned : (xs ys : List ℕ) → same_bytes xs ys ≡ same_bytes ys xs
-unfolding same_bytes
-bytes_turned [] [] = refl
-bytes_turned [] (y ∷ ys) = refl
-bytes_turned (x ∷ xs) [] = refl
-bytes_turned (x ∷ xs) (y ∷ ys) = ap₂ ◌&&◌ (eqb_turned x y) (bytes_turned xs ys)
-
 parting_turned : (xs ys : List ℕ) → parting xs ys ≡ parting ys xs
 unfolding parting
 parting_turned [] [] = refl
@@ -176,18 +159,13 @@ parting_turned [] (y ∷ ys) = refl
 parting_turned (x ∷ xs) [] = refl
 parting_turned (x ∷ xs) (y ∷ ys) = ap₂ (λ (t : Bool) (n : ℕ). cond t (suc n) 0) (eqb_turned x y) (parting_turned xs ys)
 
-event_turned : (e f : Event) → same_event e f ≡ same_event f e
-unfolding same_event
-event_turned e f =
-    ap₂ ◌&&◌ (eqb_turned (number_of_event e) (number_of_event f))
-    (ap₂ ◌&&◌ (eqb_turned (kind_rank (kind_of_event e)) (kind_rank (kind_of_event f))) (eqb_turned (verdict_rank (verdict_of e)) (verdict_rank (verdict_of f))))
+same_turned : (a b : Judged) → same a b ≡ same b a
+same_turned a b =
+    one_test (same a b) (same b a) (λ e. seen_same b a (sym (same_seen a b e))) (λ e. seen_same a b (sym (same_seen b a e)))
 
 difference_turned : (a b : Judged) → difference_of a b ≡ difference_of b a
-unfolding difference_of same
-difference_turned a b =
-    ap₂ (λ (t : Bool) (n : ℕ). cond t Same (At n))
-    (ap₂ ◌&&◌ (event_turned a.event b.event) (ap₂ ◌&&◌ (bytes_turned a.part b.part) (bytes_turned a.output b.output)))
-    (parting_turned a.output b.output)
+unfolding difference_of
+difference_turned a b = ap₂ (λ (t : Bool) (n : ℕ). cond t None (Some n)) (same_turned a b) (parting_turned a.output b.output)
 
 entries_turned : (xs ys : List Judged) (k : ℕ) → entries k xs ys ≡ entries k ys xs
 unfolding entries
@@ -215,9 +193,9 @@ unfolding compared_of room_of
 swaps s first second list = record { finding = go s.check; room = also s.check }
   where
     go : (k : Check) → compared_by s.listener second first (length list) k ≡ swapped_by (compared_by s.listener first second (length list) k)
-    go (Refused r) = refl
-    go Clear = ap compared.Done (finding_turned (account_of s.listener first) (account_of s.listener second) (length list))
+    go (Err r) = refl
+    go (Ok _) = ap Ok (finding_turned (account_of s.listener first) (account_of s.listener second) (length list))
 
     also : (k : Check) → room_by s.listener second first list k ≡ room_by s.listener first second list k
-    also (Refused r) = refl
-    also Clear = list_turned (account_of s.listener first) (account_of s.listener second) list
+    also (Err r) = refl
+    also (Ok _) = list_turned (account_of s.listener first) (account_of s.listener second) list

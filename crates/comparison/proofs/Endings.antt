@@ -1,6 +1,6 @@
 -- What a comparison will come to, from a state and the accounts to come, and that a turn does not change it. Assumes nothing.
 use Rattle.std.proofs.Common.{◌≡◌, ℕ, ◌+◌, ◌<◌, Bool, true, List, [], ◌++◌, length, drop, sym, refl, ap, ◌∙◌, ap₂, arith, length-drop, drop-drop}
-use Rattle.segment.specs.declared.refusal.Check.{Check}
+use Rattle.segment.specs.Refusal.{Check}
 use Rattle.pcap.specs.Records.{packet_of}
 use Rattle.pcap.specs.Walker.{taken_of, size_taken, walker_after, Counts}
 use Rattle.pcap.specs.declared.record.RecordHead.{RecordHead}

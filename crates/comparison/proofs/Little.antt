@@ -1,6 +1,6 @@
 -- A turn that needs more of a capture keeps less than a record of it. Assumes nothing.
 use Rattle.std.proofs.Common.{◌≡◌, ℕ, ◌<◌, Bool, true, false, List, length, drop, sym, refl, subst}
-use Rattle.segment.specs.declared.refusal.Check.{Check}
+use Rattle.segment.specs.Refusal.{Check}
 use Rattle.protocol.specs.declared.state.LocalEndpoint.{LocalEndpoint}
 use Rattle.pcap.specs.Records.{packet_of}
 use Rattle.pcap.specs.Walker.{taken_of}

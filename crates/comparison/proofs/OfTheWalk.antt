@@ -1,11 +1,10 @@
 -- A site's answers are those of the walk over its capture, on the listener that a start and a settings call leave; demand 3 holds of them; and equal refusals
 -- are no difference. Assumes nothing.
+use Rattle.std.specs.Prelude.{Err, Ok, None}
 use Rattle.std.proofs.Common.{◌≡◌, ℕ, List, [], ◌∷◌, map, length, sym, refl, ap, ◌∙◌, subst, ap₂, arith, le-ltb, eq-eqb}
 use Rattle.lists.specs.Bytes.{same_bytes}
 use Rattle.segment.specs.declared.refusal.Refusal.{Refusal}
-use Rattle.segment.specs.declared.refusal.Check.{Check}
-use Rattle.segment.specs.declared.refusal.Check.TheVariants.{Clear, Refused}
-use Rattle.segment.specs.Refusal.{number_of}
+use Rattle.segment.specs.Refusal.{Check, number_of, all_clear}
 use Rattle.segment.specs.Header.{payload_of}
 use Rattle.protocol.specs.Call.{Call, settings, accepted_part}
 use Rattle.protocol.specs.Step.{start_of, step, output_of}
@@ -25,7 +24,6 @@ use Rattle.comparison.specs.Account.{Judged, judged_as, judged_by, judged, lent,
 use Rattle.comparison.specs.Difference.{same_event, same, difference_of}
 use Rattle.comparison.specs.Compared.{event_check, ready_by, set_up_by, set_up}
 use Rattle.comparison.specs.Laws.{decision_of, OfTheWalk, SetUpIsCalls, SiteDemand3}
-use Rattle.comparison.specs.declared.difference.Difference.TheVariants.{Same}
 
 events_of : (cs : List Call) (l : Listener) → map (λ (j : Judged). j.event) (judged l cs) ≡ map (λ (a : Answer). a.outcome.event) (answers l cs)
 unfolding judged answers
@@ -55,25 +53,25 @@ of_the_walk l s =
     }
 
 abbrev IsClear : Check → Type 0
-IsClear Clear = Unit {0}
-IsClear (Refused r) = ⊥
+IsClear (Ok _) = Unit {0}
+IsClear (Err r) = ⊥
 
-pub set_up_is_calls : (own : List ℕ) (port : ℕ) (k : List ℕ) (g : Settings) → (set_up own port k g).check ≡ Clear → SetUpIsCalls own port k g
+pub set_up_is_calls : (own : List ℕ) (port : ℕ) (k : List ℕ) (g : Settings) → (set_up own port k g).check ≡ all_clear → SetUpIsCalls own port k g
 unfolding set_up listener_after
 set_up_is_calls own port k g e = go (start_of own port k).check refl e
   where
-    settled : (x : Check) → (ready_by (step (start_of own port k).listener (settings 0 g)).listener x).check ≡ Clear
+    settled : (x : Check) → (ready_by (step (start_of own port k).listener (settings 0 g)).listener x).check ≡ all_clear
         → (ready_by (step (start_of own port k).listener (settings 0 g)).listener x).listener ≡ (step (start_of own port k).listener (settings 0 g)).listener
-    settled Clear f = refl
-    settled (Refused r) f = absurd (subst IsClear (sym f) tt)
+    settled (Ok _) f = refl
+    settled (Err r) f = absurd (subst IsClear (sym f) tt)
 
-    go : (x : Check) → (start_of own port k).check ≡ x → (set_up_by (start_of own port k).listener g x).check ≡ Clear → SetUpIsCalls own port k g
-    go Clear q f = record { started = q; listener = rw q (settled (event_check (step (start_of own port k).listener (settings 0 g)).event) f) }
-    go (Refused r) q f = absurd (subst IsClear (sym f) tt)
+    go : (x : Check) → (start_of own port k).check ≡ x → (set_up_by (start_of own port k).listener g x).check ≡ all_clear → SetUpIsCalls own port k g
+    go (Ok _) q f = record { started = q; listener = rw q (settled (event_check (step (start_of own port k).listener (settings 0 g)).event) f) }
+    go (Err r) q f = absurd (subst IsClear (sym f) tt)
 
 -- Demand 3 of a site
 
-pub site_demand3 : (own : List ℕ) (port : ℕ) (k : List ℕ) (g : Settings) (s : List ℕ) → (set_up own port k g).check ≡ Clear → SiteDemand3 own port k g s
+pub site_demand3 : (own : List ℕ) (port : ℕ) (k : List ℕ) (g : Settings) (s : List ℕ) → (set_up own port k g).check ≡ all_clear → SiteDemand3 own port k g s
 unfolding account_of listener_decisions listener_after
 site_demand3 own port k g s e =
     let l = (start_of own port k).listener in
@@ -103,9 +101,9 @@ refused_judged l c r e =
     ∙ ap₂ (judged_as (events.Refused r)) (refused_part (segment_of c) r) (refused_same l c r e).3
 
 pub equal_refusals : (l m : Listener) (c d : Call) (r : Refusal) → (step l c).event ≡ events.Refused r → (step m d).event ≡ events.Refused r
-    → difference_of (judged_by l c) (judged_by m d) ≡ Same
+    → difference_of (judged_by l c) (judged_by m d) ≡ None
 unfolding difference_of same same_event same_bytes
 equal_refusals l m c d r e f =
     let x = judged_as (events.Refused r) [] [] in
-    let q : difference_of x x ≡ Same = rw (eq-eqb (number_of r) (number_of r) refl) in
+    let q : difference_of x x ≡ None = rw (eq-eqb (number_of r) (number_of r) refl) in
     ap₂ difference_of (refused_judged l c r e) (refused_judged m d r f) ∙ q

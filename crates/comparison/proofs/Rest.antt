@@ -1,9 +1,8 @@
 -- What is left for a site: the account of the bytes to come, and how it moves with what stands at the place. Assumes nothing.
+use Rattle.std.specs.Prelude.{Err, Option, None, Some, is_some}
 use Rattle.std.proofs.Common.{◌≡◌, ℕ, ◌+◌, ◌^◌, ◌<◌, ◌≤◌, Bool, true, false, List, [], ◌∷◌, ◌++◌, length, drop, sym, refl, ap, ◌∙◌, ap₂, append-nil, arith, length-append, length-drop}
-use mathlib.Core.Option.{Option, none, some}
 use lib.Seq.{drop-append-le}
-use Rattle.segment.specs.declared.refusal.Check.{Check}
-use Rattle.segment.specs.declared.refusal.Check.TheVariants.{Refused}
+use Rattle.segment.specs.Refusal.{Check}
 use Rattle.segment.specs.declared.refusal.Refusal.TheVariants.{BadCapture}
 use Rattle.protocol.specs.Call.{Call, accepted_part}
 use Rattle.protocol.specs.Step.{step}
@@ -19,11 +18,9 @@ use Rattle.pcap.specs.declared.walker.Taken.{Taken}
 use Rattle.pcap.specs.declared.walker.Taken.TheVariants.{Opened, Record, More, Bad, TooLong}
 use Rattle.pcap.proofs.Windows.{Settled, settled, walked, first_step, finish_bad, never_too_long}
 use Rattle.packet.specs.Ip.{carried_to, tcp_of}
-use Rattle.packet.specs.declared.read.Carried.{Carried}
-use Rattle.packet.specs.declared.read.Carried.TheVariants.{Tcp, Other}
 use Rattle.walk.specs.Feed.{accepted_in, call_if, call_of, feed_of, feed_output}
 use Rattle.walk.specs.Walk.{calls_of}
-use Rattle.walk.proofs.Fed.{is_some, fed-call}
+use Rattle.walk.proofs.Fed.{fed-call}
 use Rattle.comparison.specs.Account.{Judged, judged_by, judged, lent, Account, account_of}
 use Rattle.comparison.specs.ToCome.{account_from, rest_of}
 use Rattle.comparison.specs.Site.{new_site, record_stand, more_stand, stand_by, site_fed, judged_at, site_passed}
@@ -40,22 +37,22 @@ at-start l s h =
 
 -- A call's segment is that of the packet
 abbrev segment_in : List ℕ → Option Call → List ℕ
-segment_in other none = other
-segment_in other (some c) = segment_of c
+segment_in other None = other
+segment_in other (Some c) = segment_of c
 
-call-segment : (local : LocalEndpoint) (place seconds micros : ℕ) (packet : List ℕ) (c : Call) → call_of local place seconds micros packet lent ≡ some c
+call-segment : (local : LocalEndpoint) (place seconds micros : ℕ) (packet : List ℕ) (c : Call) → call_of local place seconds micros packet lent ≡ Some c
     → segment_of c ≡ tcp_of packet (carried_to local.family local.own packet)
 unfolding call_of
 call-segment local place seconds micros packet c e =
     let tcp = tcp_of packet (carried_to local.family local.own packet) in
     sym (ap (segment_in tcp) e) ∙ go local.started (carried_to local.family local.own packet) refl
   where
-    go : (b : Bool) (x : Carried) → carried_to local.family local.own packet ≡ x
+    go : (b : Bool) (x : Option ℕ) → carried_to local.family local.own packet ≡ x
         → segment_in (tcp_of packet (carried_to local.family local.own packet)) (call_if b local place seconds micros packet lent)
         ≡ tcp_of packet (carried_to local.family local.own packet)
     go false x q = refl
-    go true (Tcp start) q = rw q
-    go true Other q = rw q
+    go true (Some start) q = rw q
+    go true None q = rw q
 
 -- what is left after a step that takes something
 pub record Moves (w : Walker) (t : Taken) (b f : List ℕ) : Type 0 where
@@ -88,7 +85,7 @@ module _ (s : Site) (b f : List ℕ) (last : Bool) where
     left_over : (n : ℕ) → n ≤ length b → length (drop n b ++ f) + n ≡ length (b ++ f)
     left_over n h = omega (arith, length-append (drop n b) f, length-append b f, length-drop n b)
 
-    opened : (o : _) → Settled s.walker s.walker.stage b (Opened o) → Ahead (Opened o) stand.Passed
+    opened : (o : _) → Settled s.walker s.walker.order b (Opened o) → Ahead (Opened o) stand.Passed
     unfolding rest_of
     opened o k =
         let n = left_over 24 k.1 in (
@@ -96,7 +93,7 @@ module _ (s : Site) (b f : List ℕ) (last : Bool) where
           record { least = omega arith; fits = k.1; room = record { records = omega (arith, n, room.records); bytes = omega (arith, n, room.bytes) } },
         )
 
-    module _ (h : RecordHead) (k : Settled s.walker s.walker.stage b (Record h)) where
+    module _ (h : RecordHead) (k : Settled s.walker s.walker.order b (Record h)) where
       abbrev p : List ℕ
       p = packet_of h b
 
@@ -120,8 +117,8 @@ module _ (s : Site) (b f : List ℕ) (last : Bool) where
       taken : (o : Option Call) → call_of s.listener.local s.walker.records h.seconds h.micros p lent ≡ o
           → Ahead (Record h) (record_stand (is_some o) h)
       unfolding rest_of calls_of judged feed_of feed_output accepted_in
-      taken none e = (ap (account_from s.listener s.walker.records) drained ∙ rw e, moves)
-      taken (some c) e =
+      taken None e = (ap (account_from s.listener s.walker.records) drained ∙ rw e, moves)
+      taken (Some c) e =
           let l = s.listener in
           let part : accepted_part (segment_of c) (step l c).event ≡ accepted_part (tcp_of p (carried_to l.local.family l.local.own p)) (step l c).event =
           ap (λ (x : List ℕ). accepted_part x (step l c).event) (call-segment l.local s.walker.records h.seconds h.micros p c e) in
@@ -142,7 +139,7 @@ module _ (s : Site) (b f : List ℕ) (last : Bool) where
             moves,
           )
 
-    settled_ahead : (t : Taken) → taken_of s.walker b ≡ t → Settled s.walker s.walker.stage b t
+    settled_ahead : (t : Taken) → taken_of s.walker b ≡ t → Settled s.walker s.walker.order b t
         → Ahead t (stand_by s.listener.local s.walker b last t)
     unfolding rest_of calls_of judged
     settled_ahead (Opened o) e k = opened o k
@@ -159,11 +156,11 @@ module _ (s : Site) (b f : List ℕ) (last : Bool) where
         go false q = q
     settled_ahead Bad e k = λ none_left. over
       where
-        over : rest_of s (b ++ f) ≡ record { answers = []; end = Refused BadCapture }
+        over : rest_of s (b ++ f) ≡ record { answers = []; end = Err BadCapture }
         over =
             ap (account_from s.listener s.walker.records) (stepped Bad (k f))
             ∙ ap (λ (x : Check). record { answers = []; end = x }) (finish_bad s.walker (b ++ f) (k f))
     settled_ahead TooLong e k = absurd (never_too_long s.walker b f room e)
 
     pub ahead : Ahead (taken_of s.walker b) (stand_by s.listener.local s.walker b last (taken_of s.walker b))
-    ahead = settled_ahead (taken_of s.walker b) refl (settled s.walker s.walker.stage b)
+    ahead = settled_ahead (taken_of s.walker b) refl (settled s.walker s.walker.order b)

@@ -1,7 +1,8 @@
 -- From the start a comparison comes to the finding on both whole captures. Assumes nothing.
-use Rattle.std.proofs.Common.{◌≡◌, ℕ, zero, suc, ◌+◌, ◌-◌, ◌*◌, ◌^◌, ◌<◌, ◌≤◌, List, [], ◌∷◌, length, take, drop, sym, refl, ap, ◌∙◌, ap₂, zero-add, arith}
-use mathlib.Core.Option.{Option, none, some}
+use Rattle.std.specs.Prelude.{Option, None, Some}
+use Rattle.std.proofs.Common.{◌≡◌, ℕ, suc, ◌+◌, ◌-◌, ◌*◌, ◌^◌, ◌<◌, ◌≤◌, List, [], ◌∷◌, length, take, drop, sym, refl, ap, ◌∙◌, ap₂, zero-add, arith}
 use lib.Seq.{sets, sets-eq}
+use Rattle.std.proofs.lemmas.List.{length-take}
 use Rattle.lists.specs.Bytes.{overwrite}
 use Rattle.protocol.specs.Call.{Call}
 use Rattle.protocol.specs.Step.{step}
@@ -29,12 +30,7 @@ length_numbers (e ∷ es) = omega (arith, length_numbers es)
 
 -- so those that fit are within the room
 pub within : (es : List Entry) (n : ℕ) → length (numbers_of (take (fitting n) es)) ≤ n
-within es n = omega (arith, length_numbers (take (fitting n) es), shorter (fitting n) es)
-  where
-    shorter : (m : ℕ) (es : List Entry) → length (take m es) ≤ m
-    shorter zero es = omega arith
-    shorter (suc m) [] = omega arith
-    shorter (suc m) (e ∷ es) = omega (arith, shorter m es)
+within es n = omega (arith, length_numbers (take (fitting n) es), length-take (fitting n) es)
 
 -- the finding and the room, of two accounts
 abbrev pub found : Account → Account → List ℕ → Ending
@@ -69,8 +65,8 @@ fewer_calls [] local place = omega arith
 fewer_calls (r ∷ rs) local place = go (call_of local place r.seconds r.micros r.packet lent) (fewer_calls rs local (place + 1))
   where
     go : (o : Option Call) → length (calls_of local (place + 1) rs lent) ≤ length rs → length (before o (calls_of local (place + 1) rs lent)) ≤ length (r ∷ rs)
-    go none h = omega arith
-    go (some c) h = omega arith
+    go None h = omega arith
+    go (Some c) h = omega arith
 
 fewer_answers : (l : Listener) (s : List ℕ) → length s < 2 ^ 64 → length (account_of l s).answers < 2 ^ 64
 unfolding account_of

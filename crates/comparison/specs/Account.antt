@@ -1,7 +1,7 @@
 -- Document 02, Item 12: what a site makes of its capture: each fed record's event, accepted part and answer, in order, and how the capture ends.
 -- Assumes nothing.
 use Rattle.std.specs.Prelude.{ℕ, List, [], ◌∷◌}
-use Rattle.segment.specs.declared.refusal.Check.{Check}
+use Rattle.segment.specs.Refusal.{Check}
 use Rattle.protocol.specs.Call.{Call, accepted_part}
 use Rattle.protocol.specs.Step.{step, output_of}
 use Rattle.protocol.specs.Demand3.{segment_of}

@@ -1,12 +1,14 @@
 -- Document 02, Item 12: how two sites differ on a record.
 -- Assumes nothing.
-use Rattle.std.specs.Prelude.{ℕ, suc, Bool, cond, ◌&&◌, List, [], ◌∷◌, ◌==◌}
+use Rattle.std.specs.Prelude.{ℕ, suc, Bool, cond, ◌&&◌, List, [], ◌∷◌, ◌==◌, Option, None, Some}
 use Rattle.lists.specs.Bytes.{same_bytes}
 use Rattle.protocol.specs.Call.{number_of_event, SegmentKind, opening, reset, completion, none, kind_of_event, Verdict, early, plain, repeat, no_verdict, verdict_of}
 use Rattle.protocol.specs.declared.outcome.Event.{Event}
 use Rattle.comparison.specs.Account.{Judged}
-use Rattle.comparison.specs.declared.difference.Difference.{Difference}
-use Rattle.comparison.specs.declared.difference.Difference.TheVariants.{Same, At}
+use Rattle.comparison.specs.declared.difference.Kind.{Kind}
+use Rattle.comparison.specs.declared.difference.Kind.TheVariants as kinds
+use Rattle.comparison.specs.declared.difference.Verdict as declared
+use Rattle.comparison.specs.declared.difference.Verdict.TheVariants as verdicts
 
 -- a number for each kind and each verdict
 abbrev pub kind_rank : SegmentKind → ℕ
@@ -20,6 +22,19 @@ verdict_rank early = 0
 verdict_rank plain = 1
 verdict_rank repeat = 2
 verdict_rank no_verdict = 3
+
+-- as the code has them
+abbrev pub kind_named : SegmentKind → Option Kind
+kind_named opening = Some kinds.Opening
+kind_named reset = Some kinds.Reset
+kind_named completion = Some kinds.Completion
+kind_named none = None
+
+abbrev pub verdict_named : Verdict → Option declared.Verdict
+verdict_named early = Some verdicts.Early
+verdict_named plain = Some verdicts.Plain
+verdict_named repeat = Some verdicts.Repeat
+verdict_named no_verdict = None
 
 -- the numbers, kinds and verdicts are the same. A refused call has neither kind nor verdict, no part and no output: so two equal refusals are no difference
 -- (law `equal-refusals`)
@@ -38,5 +53,5 @@ parting [] ys = 0
 parting (x ∷ xs) [] = 0
 parting (x ∷ xs) (y ∷ ys) = cond (x == y) (suc (parting xs ys)) 0
 
-unfoldable pub difference_of : Judged → Judged → Difference
-difference_of a b = cond (same a b) Same (At (parting a.output b.output))
+unfoldable pub difference_of : Judged → Judged → Option ℕ
+difference_of a b = cond (same a b) None (Some (parting a.output b.output))

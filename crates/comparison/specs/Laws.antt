@@ -1,7 +1,8 @@
 -- Document 02, Item 12: what holds of every comparison.
 -- Assumes nothing.
-use Rattle.std.specs.Prelude.{◌≡◌, ℕ, ◌+◌, ◌*◌, List, [], ◌∷◌, map, length, take, drop, ◌≢◌}
-use Rattle.segment.specs.declared.refusal.Check.TheVariants.{Clear}
+use Rattle.std.specs.Prelude.{◌≡◌, ℕ, ◌+◌, ◌*◌, List, [], ◌∷◌, map, length, take, drop, ◌≢◌, Result, Ok, Err}
+use Rattle.segment.specs.Refusal.{all_clear}
+use Rattle.segment.specs.declared.refusal.Refusal.{Refusal}
 use Rattle.protocol.specs.Call.{Call, settings, number_of_event, SegmentKind, kind_of_event, Verdict, verdict_of, accepted_of}
 use Rattle.protocol.specs.Step.{start_of, step}
 use Rattle.protocol.specs.Journal.{Decision}
@@ -15,8 +16,6 @@ use Rattle.comparison.specs.Account.{Judged, lent, Account, account_of}
 use Rattle.comparison.specs.Listing.{numbers_of, fitting}
 use Rattle.comparison.specs.Compared.{differences, finding_of, listed_in, set_up, compared_of, room_of}
 use Rattle.comparison.specs.declared.compare.Finding.{Finding}
-use Rattle.comparison.specs.declared.compare.Compared.{Compared}
-use Rattle.comparison.specs.declared.compare.Compared.TheVariants as compared
 
 -- what can be seen of an answer; a refused call has neither kind nor verdict
 pub record Seen : Type 0 where
@@ -44,7 +43,7 @@ pub record OfTheWalk (l : Listener) (s : List ℕ) : Type 0 where
 
 -- Where the set-up is clear, the start was, and the listener is the one that the settings call left.
 pub record SetUpIsCalls (own : List ℕ) (port : ℕ) (k : List ℕ) (g : Settings) : Type 0 where
-  pub started : (start_of own port k).check ≡ Clear
+  pub started : (start_of own port k).check ≡ all_clear
   pub listener : (set_up own port k g).listener ≡ listener_after (start_of own port k).listener (settings 0 g ∷ [])
 
 -- the calls of a site: the settings, and its fed records
@@ -74,9 +73,9 @@ pub record FirstOnes (a b : Account) (list : List ℕ) : Type 0 where
 abbrev pub swapped : Finding → Finding
 swapped f = record { listed = f.listed; remaining = f.remaining; first = f.second; second = f.first }
 
-abbrev pub swapped_by : Compared → Compared
-swapped_by (compared.Refused r) = compared.Refused r
-swapped_by (compared.Done f) = compared.Done (swapped f)
+abbrev pub swapped_by : Result Finding Refusal → Result Finding Refusal
+swapped_by (Err r) = Err r
+swapped_by (Ok f) = Ok (swapped f)
 
 pub record Swaps (s : Started) (first second : List ℕ) (list : List ℕ) : Type 0 where
   pub finding : compared_of s second first (length list) ≡ swapped_by (compared_of s first second (length list))

@@ -1,11 +1,9 @@
 -- Document 02, Item 12: the list of differences, and lent room for it. An entry is two numbers: which pair it is, from 0, and the place.
 -- Assumes nothing.
-use Rattle.std.specs.Prelude.{ℕ, ◌+◌, ◌*◌, ◌/◌, ◌%◌, ◌^◌, cond, List, [], ◌∷◌, length, nat_lt}
+use Rattle.std.specs.Prelude.{ℕ, ◌+◌, ◌*◌, ◌/◌, ◌%◌, ◌^◌, cond, List, [], ◌∷◌, length, nat_lt, Option, None, Some}
 use Rattle.std.proofs.lemmas.List.Edits.{sets}
 use Rattle.comparison.specs.Account.{Judged}
 use Rattle.comparison.specs.Difference.{difference_of}
-use Rattle.comparison.specs.declared.difference.Difference.{Difference}
-use Rattle.comparison.specs.declared.difference.Difference.TheVariants.{Same, At}
 use Rattle.comparison.specs.declared.list.Tally.{Tally}
 
 pub record Entry : Type 0 where
@@ -13,14 +11,14 @@ pub record Entry : Type 0 where
   pub place : ℕ
 
 -- a record that has no pair: its place is 2^64 - 1
-abbrev pub unpaired : Difference
-unpaired = At 18446744073709551615
+abbrev pub unpaired : Option ℕ
+unpaired = Some 18446744073709551615
 
 -- The whole list, from a pair on: the pairs that differ, and then the rest of the longer
 
-abbrev pub before : ℕ → Difference → List Entry → List Entry
-before k Same es = es
-before k (At place) es = record { pair = k; place = place } ∷ es
+abbrev pub before : ℕ → Option ℕ → List Entry → List Entry
+before k None es = es
+before k (Some place) es = record { pair = k; place = place } ∷ es
 
 unfoldable pub entries : ℕ → List Judged → List Judged → List Entry
 entries k [] [] = []
@@ -57,17 +55,17 @@ unfoldable pub list_with : Tally → ℕ → List ℕ → List ℕ
 list_with t place list =
     cond (nat_lt t.listed (fitting (length list))) (sets list (2 * t.listed) (t.pairs ∷ place ∷ [])) list
 
-abbrev pub noted_by : ℕ → Tally → Difference → Tally
-noted_by n t Same = t
-noted_by n t (At place) = noted n t
+abbrev pub noted_by : ℕ → Tally → Option ℕ → Tally
+noted_by n t None = t
+noted_by n t (Some place) = noted n t
 
 abbrev pub counted : Tally → Tally
 counted t = record { pairs = more t.pairs; listed = t.listed; remaining = t.remaining }
 
 -- the difference of the pair at hand was taken
-abbrev pub tallied : ℕ → Tally → Difference → Tally
+abbrev pub tallied : ℕ → Tally → Option ℕ → Tally
 tallied n t d = counted (noted_by n t d)
 
-abbrev pub list_then : Tally → Difference → List ℕ → List ℕ
-list_then t Same list = list
-list_then t (At place) list = list_with t place list
+abbrev pub list_then : Tally → Option ℕ → List ℕ → List ℕ
+list_then t None list = list
+list_then t (Some place) list = list_with t place list

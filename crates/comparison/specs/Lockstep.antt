@@ -1,7 +1,7 @@
 -- Document 02, Item 12: two captures in lockstep, in windows: one turn, and what it leaves.
 -- Assumes nothing.
-use Rattle.std.specs.Prelude.{ℕ, Bool, List, take, drop}
-use Rattle.segment.specs.declared.refusal.Check.{Check}
+use Rattle.std.specs.Prelude.{ℕ, Bool, List, take, drop, Option}
+use Rattle.segment.specs.Refusal.{Check}
 use Rattle.protocol.specs.declared.state.Listener.{Listener}
 use Rattle.pcap.specs.Records.{packet_of}
 use Rattle.pcap.specs.declared.record.RecordHead.{RecordHead}
@@ -10,7 +10,6 @@ use Rattle.comparison.specs.Account.{Judged, judged_as}
 use Rattle.comparison.specs.Difference.{difference_of}
 use Rattle.comparison.specs.Listing.{fresh, unpaired, tallied, list_then}
 use Rattle.comparison.specs.Site.{new_site, look_of, site_fed, judged_at, site_passed}
-use Rattle.comparison.specs.declared.difference.Difference.{Difference}
 use Rattle.comparison.specs.declared.list.Tally.{Tally}
 use Rattle.comparison.specs.declared.site.Site.{Site}
 use Rattle.comparison.specs.declared.site.Stand.{Stand}
@@ -48,7 +47,7 @@ abbrev pub second_alone : Comparison → Look → RecordHead → List ℕ → �
 second_alone c k h packet at1 n = gone c.first (site_fed c.second k.walker h packet) (tallied n c.tally unpaired) at1 k.next
 
 -- a record of each
-abbrev pub pair_difference : Comparison → RecordHead → List ℕ → RecordHead → List ℕ → Difference
+abbrev pub pair_difference : Comparison → RecordHead → List ℕ → RecordHead → List ℕ → Option ℕ
 pair_difference c h1 p1 h2 p2 = difference_of (judged_at c.first h1 p1) (judged_at c.second h2 p2)
 
 abbrev pub pair_taken : Comparison → Look → RecordHead → List ℕ → Look → RecordHead → List ℕ → ℕ → Advance

@@ -1,8 +1,7 @@
 -- Document 02, Item 12: one side of a comparison, in windows: what stands at a place of the window, and a record that is fed.
 -- Assumes nothing.
-use Rattle.std.specs.Prelude.{ℕ, ◌+◌, Bool, true, false, List, drop}
+use Rattle.std.specs.Prelude.{ℕ, ◌+◌, Bool, true, false, List, drop, Err}
 use Rattle.segment.specs.declared.refusal.Refusal.TheVariants.{CutRecord, BadCapture}
-use Rattle.segment.specs.declared.refusal.Check.TheVariants.{Refused}
 use Rattle.protocol.specs.declared.state.LocalEndpoint.{LocalEndpoint}
 use Rattle.protocol.specs.declared.state.Listener.{Listener}
 use Rattle.pcap.specs.Records.{packet_of}
@@ -38,8 +37,8 @@ abbrev pub stand_by : LocalEndpoint → Walker → List ℕ → Bool → Taken �
 stand_by local w s last (Opened o) = Passed
 stand_by local w s last (Record h) = record_stand (is_fed_to local (packet_of h s)) h
 stand_by local w s last More = more_stand last w s
-stand_by local w s last Bad = Over (Refused BadCapture)
-stand_by local w s last TooLong = Over (Refused CutRecord)
+stand_by local w s last Bad = Over (Err BadCapture)
+stand_by local w s last TooLong = Over (Err CutRecord)
 
 abbrev pub look_by : LocalEndpoint → Walker → List ℕ → ℕ → Bool → Taken → Look
 look_by local w s at last t = record { stand = stand_by local w s last t; walker = walker_after w t; next = at + size_taken t }

@@ -1,9 +1,9 @@
 -- Document 02, Item 12: captures of any size, in lockstep and in pieces: turn after turn, with a next piece of the one that needs it.
 -- Assumes nothing.
 use Rattle.std.specs.Prelude.{◌≡◌, ℕ, zero, suc, ◌+◌, ◌<◌, Bool, true, false, List, [], ◌∷◌, ◌++◌, length, drop}
+use Rattle.segment.specs.Refusal.{all_clear}
 use mathlib.Core.List.{flatten}
 use Rattle.std.proofs.Math.Option.{Option, none, some}
-use Rattle.segment.specs.declared.refusal.Check.TheVariants.{Clear}
 use Rattle.protocol.specs.declared.state.Listener.{Listener}
 use Rattle.pcap.specs.Record.{record_header, most_captured}
 use Rattle.comparison.specs.Account.{account_of}
@@ -27,7 +27,7 @@ is_going NeedsSecond = false
 is_going (Over e) = false
 
 abbrev pub no_ends : Ends
-no_ends = record { first = Clear; second = Clear }
+no_ends = record { first = all_clear; second = all_clear }
 
 abbrev pub ends_by : Turn → Ends
 ends_by Went = no_ends

@@ -6,16 +6,17 @@ ghost use Rattle.comparison.specs.ToCome.{ended_by};
 ghost use Rattle.comparison.specs.Windows.{begun, is_going, no_ends, ends_by};
 
 use crate::lockstep::{Advance, Comparison, Ends, Turn, new_comparison, take_turn};
+use crate::site::Window;
 use listener::calls::{never_started, set_settings, start};
 use protocol::outcome::{Event, Started};
 use protocol::state::{Listener, Settings};
-use segment::refusal::{Check, Refusal};
+use segment::refusal::Refusal;
 
 // How many records of a capture were fed, and how it ended.
 #[derive(Clone, Copy, Drop)]
 pub struct Summary {
     pub fed: u64,
-    pub end: Check,
+    pub end: Result<(), Refusal>,
 }
 
 // How many differences are listed, how many more there are, and what each capture came to.
@@ -27,59 +28,34 @@ pub struct Finding {
     pub second: Summary,
 }
 
-// The set-up was refused, or both captures were compared.
-#[derive(Clone, Copy, Drop)]
-pub enum Compared {
-    Refused(Refusal),
-    Done(Finding),
-}
-
-fn event_check(e: Event) -> Check
+fn event_check(e: Event) -> Result<(), Refusal>
     ensures { result ≡ event_check e }
 {
-    match e {
-        Event::Refused(why) => Check::Refused(why),
-        Event::FastOpened(_) => Check::Clear,
-        Event::Regular => Check::Clear,
-        Event::Retransmission => Check::Clear,
-        Event::Completed => Check::Clear,
-        Event::WasReset => Check::Clear,
-        Event::Done => Check::Clear,
+    if let Event::Refused(why) = e {
+        return Err(why);
     }
+    Ok(())
 }
 
-// A listener that is set up, or one on which every call is refused.
-fn ready(l: Listener, check: Check) -> Started
+// Where either call is refused, every call on the listener is.
+fn ready(l: Listener, check: Result<(), Refusal>) -> Started
     ensures { result ≡ ready_by l check }
 {
-    match check {
-        Check::Refused(why) => Started {
-            listener: never_started(),
-            check: Check::Refused(why),
-        },
-        Check::Clear => Started {
-            listener: l,
-            check: Check::Clear,
-        },
-    }
+    let listener = if check.is_ok() { l } else { never_started() };
+    Started { listener, check }
 }
 
 // A start and a settings call at time 0; the first refusal is the answer.
+#[tactic(auto, unfolding(crate::specs::Compared::set_up, protocol::specs::Step::start_of))]
 pub fn set_up(own: &[u8], port: u16, key: &[u8], g: Settings) -> Started
     ensures { result ≡ set_up own.now port key.now g }
 {
-    let s = start(own, port, key);
-    let l = s.listener;
-    let check = s.check;
-    match check {
-        Check::Refused(why) => ready(l, Check::Refused(why)),
-        Check::Clear => {
-            let o = set_settings(l, 0, g);
-            let listener = o.listener;
-            let event = o.event;
-            ready(listener, event_check(event))
-        }
+    let started = start(own, port, key);
+    if started.check.is_err() {
+        return started;
     }
+    let o = set_settings(started.listener, 0, g);
+    ready(o.listener, event_check(o.event))
 }
 
 // Before the first turn, at the start of both captures.
@@ -97,32 +73,18 @@ fn begin(l: Listener) -> Advance
 fn is_going(a: Advance) -> bool
     ensures { result ≡ is_going a.turn }
 {
-    let turn = a.turn;
-    match turn {
-        Turn::Went => true,
-        Turn::NeedsFirst => false,
-        Turn::NeedsSecond => false,
-        Turn::Over(_) => false,
-    }
-}
-
-fn no_ends() -> Ends
-    ensures { result ≡ no_ends }
-{
-    Ends {
-        first: Check::Clear,
-        second: Check::Clear,
-    }
+    matches!(a.turn, Turn::Went)
 }
 
 fn ends_of(turn: Turn) -> Ends
     ensures { result ≡ ends_by turn }
 {
     match turn {
-        Turn::Went => no_ends(),
-        Turn::NeedsFirst => no_ends(),
-        Turn::NeedsSecond => no_ends(),
         Turn::Over(ends) => ends,
+        _ => Ends {
+            first: Ok(()),
+            second: Ok(()),
+        },
     }
 }
 
@@ -130,21 +92,16 @@ fn ends_of(turn: Turn) -> Ends
 pub fn finding_of(c: Comparison, ends: Ends) -> Finding
     ensures { result ≡ ended_by c ends }
 {
-    let tally = c.tally;
-    let first = c.first;
-    let second = c.second;
-    let end1 = ends.first;
-    let end2 = ends.second;
     Finding {
-        listed: tally.listed,
-        remaining: tally.remaining,
+        listed: c.tally.listed,
+        remaining: c.tally.remaining,
         first: Summary {
-            fed: first.fed,
-            end: end1,
+            fed: c.first.fed,
+            end: ends.first,
         },
         second: Summary {
-            fed: second.fed,
-            end: end2,
+            fed: c.second.fed,
+            end: ends.second,
         },
     }
 }
@@ -161,15 +118,23 @@ pub(crate) fn compare_captures(
 {
     let mut a = begin(l);
     while is_going(a) {
-        let c = a.comparison;
-        a = take_turn(c, first, a.at1, true, second, a.at2, true, list);
+        let one = Window {
+            bytes: first,
+            at: a.at1,
+            last: true,
+        };
+        let two = Window {
+            bytes: second,
+            at: a.at2,
+            last: true,
+        };
+        a = take_turn(a.comparison, one, two, list);
     }
-    let c = a.comparison;
-    let turn = a.turn;
-    finding_of(c, ends_of(turn))
+    finding_of(a.comparison, ends_of(a.turn))
 }
 
 // Compares two whole captures after a start and a settings call.
+#[tactic(auto, unfolding(crate::specs::Compared::compared_of, crate::specs::Compared::room_of))]
 pub fn compare(
     own: &[u8],
     port: u16,
@@ -178,15 +143,11 @@ pub fn compare(
     first: &[u8],
     second: &[u8],
     list: &mut [u64],
-) -> Compared
+) -> Result<Finding, Refusal>
     ensures value { result ≡ compared_of (set_up own.now port key.now g) first.now second.now (length list.old) }
     ensures list_after { list.new ≡ room_of (set_up own.now port key.now g) first.now second.now list.old }
 {
     let s = set_up(own, port, key, g);
-    let l = s.listener;
-    let check = s.check;
-    match check {
-        Check::Refused(why) => Compared::Refused(why),
-        Check::Clear => Compared::Done(compare_captures(l, first, second, list)),
-    }
+    s.check?;
+    Ok(compare_captures(s.listener, first, second, list))
 }

@@ -1,106 +1,89 @@
 // What two sites made of a record: whether it is the same, and where the answers part.
-ghost use Rattle.std.specs.Prelude.{◌≡◌};
-ghost use Rattle.lists.specs.Bytes.{same_bytes};
+ghost use Rattle.std.specs.Prelude.{◌≡◌, not, nat_eq};
+ghost use Rattle.std.specs.List.{zip, position_from};
 ghost use Rattle.protocol.specs.Call.{kind_of_event, verdict_of};
 ghost use Rattle.comparison.specs.Account.{judged_as};
-ghost use Rattle.comparison.specs.Difference.{same_event, parting, difference_of, kind_rank, verdict_rank};
+ghost use Rattle.comparison.specs.Difference.{same_event, parting, difference_of, kind_named, verdict_named};
 
 use listener::outcome::event_number;
 use protocol::outcome::Event;
 
-// No difference, or one, with the first place where the answers differ, the length of the shorter where no byte does, 2^64 - 1 where a record has no pair.
-#[derive(Clone, Copy, Drop)]
-pub enum Difference {
-    Same,
-    At(u64),
+// The first of the pairs of two slices' bytes that differ.
+fn first_unlike(a: &[u8], b: &[u8]) -> Option<usize>
+    ensures { result ≡ position_from (λ p. not (nat_eq p.0 p.1)) 0 (zip a.now b.now) }
+{
+    a.iter().zip(b).position(|(x, y)| x != y)
 }
 
 // The first place where two slices differ; the length of the shorter where no byte does.
+#[tactic(auto, using(crate::proofs::Parting::first_parting))]
 pub fn first_difference(a: &[u8], b: &[u8]) -> usize
     ensures { result ≡ parting a.now b.now }
 {
-    let mut i = 0;
-    while i < a.len() && i < b.len() && a[i] == b[i] {
-        i += 1;
-    }
-    i
+    first_unlike(a, b).unwrap_or(a.len().min(b.len()))
 }
 
-fn same_bytes(a: &[u8], b: &[u8]) -> bool
-    ensures { result ≡ same_bytes a.now b.now }
-{
-    if a.len() != b.len() {
-        return false;
-    }
-    first_difference(a, b) == a.len()
+// The kind of a done segment, in document 01's words.
+#[derive(Clone, Copy, Drop, PartialEq)]
+enum Kind {
+    Opening,
+    Reset,
+    Completion,
 }
 
-// A number for each kind of a done segment.
-fn kind_rank(e: Event) -> u8
-    ensures { result ≡ kind_rank (kind_of_event e) }
-{
-    match e {
-        Event::Refused(_) => 3,
-        Event::FastOpened(_) => 0,
-        Event::Regular => 0,
-        Event::Retransmission => 0,
-        Event::Completed => 2,
-        Event::WasReset => 1,
-        Event::Done => 3,
-    }
+// The verdict of a done opening.
+#[derive(Clone, Copy, Drop, PartialEq)]
+enum Verdict {
+    Early,
+    Plain,
+    Repeat,
 }
 
-// A number for each verdict of a done opening.
-fn verdict_rank(e: Event) -> u8
-    ensures { result ≡ verdict_rank (verdict_of e) }
+fn kind_of(e: Event) -> Option<Kind>
+    ensures { result ≡ kind_named (kind_of_event e) }
 {
     match e {
-        Event::Refused(_) => 3,
-        Event::FastOpened(_) => 0,
-        Event::Regular => 1,
-        Event::Retransmission => 2,
-        Event::Completed => 3,
-        Event::WasReset => 3,
-        Event::Done => 3,
+        Event::FastOpened(_) | Event::Regular | Event::Retransmission => Some(Kind::Opening),
+        Event::WasReset => Some(Kind::Reset),
+        Event::Completed => Some(Kind::Completion),
+        Event::Refused(_) | Event::Done => None,
+    }
+}
+
+fn verdict_of(e: Event) -> Option<Verdict>
+    ensures { result ≡ verdict_named (verdict_of e) }
+{
+    match e {
+        Event::FastOpened(_) => Some(Verdict::Early),
+        Event::Regular => Some(Verdict::Plain),
+        Event::Retransmission => Some(Verdict::Repeat),
+        Event::Completed | Event::WasReset | Event::Refused(_) | Event::Done => None,
     }
 }
 
 // Whether two calls returned the same number and, if they are done, are of one kind and verdict.
+#[tactic(auto, unfolding(crate::specs::Difference::same_event))]
 pub fn same_event(a: Event, b: Event) -> bool
     ensures { result ≡ same_event a b }
 {
-    if event_number(a) != event_number(b) {
-        return false;
-    }
-    if kind_rank(a) != kind_rank(b) {
-        return false;
-    }
-    verdict_rank(a) == verdict_rank(b)
+    event_number(a) == event_number(b) && kind_of(a) == kind_of(b) && verdict_of(a) == verdict_of(b)
 }
 
-// How two sites differ on a record, by the event, the accepted part and the answer of each.
-pub fn compare_answers(
-    first: Event,
-    part1: &[u8],
-    answer1: &[u8],
-    second: Event,
-    part2: &[u8],
-    answer2: &[u8],
-) -> Difference
-    ensures { result ≡ difference_of (judged_as first part1.now answer1.now) (judged_as second part2.now answer2.now) }
+// What a record came to: the event, the bytes of early data that were accepted, and the segment that was written.
+#[derive(Clone, Copy, Drop)]
+pub struct Judged<'a> {
+    pub event: Event,
+    pub part: &'a [u8],
+    pub output: &'a [u8],
+}
+
+// How two sites differ on a record: the first place where the answers differ, the length of the shorter where no byte does.
+#[tactic(auto, using(crate::proofs::Parting::equal_bytes), unfolding(crate::specs::Difference::difference_of, crate::specs::Difference::same))]
+pub fn compare_answers(a: Judged, b: Judged) -> Option<u64>
+    ensures { result ≡ difference_of (judged_as a.entry.event a.entry.part.now a.entry.output.now) (judged_as b.entry.event b.entry.part.now b.entry.output.now) }
 {
-    let place = first_difference(answer1, answer2);
-    if !same_event(first, second) {
-        return Difference::At(place as u64);
+    if same_event(a.event, b.event) && a.part == b.part && a.output == b.output {
+        return None;
     }
-    if !same_bytes(part1, part2) {
-        return Difference::At(place as u64);
-    }
-    if answer1.len() != answer2.len() {
-        return Difference::At(place as u64);
-    }
-    if place != answer1.len() {
-        return Difference::At(place as u64);
-    }
-    Difference::Same
+    Some(first_difference(a.output, b.output) as u64)
 }

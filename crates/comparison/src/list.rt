@@ -2,9 +2,6 @@
 ghost use Rattle.std.specs.Prelude.{◌≡◌, length};
 ghost use Rattle.comparison.specs.Listing.{fresh, noted, list_with, counted, tallied, list_then};
 
-use crate::difference::Difference;
-use std::num::wrapping_add_u64;
-
 // How many pairs were looked at, the unpaired ones with them; how many entries are listed, and how many more there are.
 #[derive(Clone, Copy, Drop)]
 pub struct Tally {
@@ -24,6 +21,8 @@ pub(crate) fn new_tally() -> Tally
 }
 
 // Lists the pair at hand where a whole entry fits, and else counts it.
+// (The two numbers are set one by one: std says nothing of a slice once its parts were lent by `as_chunks_mut`.)
+#[tactic(auto, unfolding(crate::specs::Listing::noted, crate::specs::Listing::list_with))]
 fn note(list: &mut [u64], t: Tally, place: u64) -> Tally
     ensures value { result ≡ noted (length list.old) t }
     ensures list_after { list.new ≡ list_with t place list.old }
@@ -32,15 +31,13 @@ fn note(list: &mut [u64], t: Tally, place: u64) -> Tally
         list[2 * t.listed] = t.pairs;
         list[2 * t.listed + 1] = place;
         return Tally {
-            pairs: t.pairs,
             listed: t.listed + 1,
-            remaining: t.remaining,
+            ..t
         };
     }
     Tally {
-        pairs: t.pairs,
-        listed: t.listed,
-        remaining: wrapping_add_u64(t.remaining, 1),
+        remaining: t.remaining.wrapping_add(1),
+        ..t
     }
 }
 
@@ -48,19 +45,18 @@ fn count_pair(t: Tally) -> Tally
     ensures { result ≡ counted t }
 {
     Tally {
-        pairs: wrapping_add_u64(t.pairs, 1),
-        listed: t.listed,
-        remaining: t.remaining,
+        pairs: t.pairs.wrapping_add(1),
+        ..t
     }
 }
 
 // Takes the difference of the pair at hand, and goes on to the next pair.
-pub(crate) fn take_difference(list: &mut [u64], t: Tally, d: Difference) -> Tally
+pub(crate) fn take_difference(list: &mut [u64], t: Tally, d: Option<u64>) -> Tally
     ensures value { result ≡ tallied (length list.old) t d }
     ensures list_after { list.new ≡ list_then t d list.old }
 {
     match d {
-        Difference::Same => count_pair(t),
-        Difference::At(place) => count_pair(note(list, t, place)),
+        None => count_pair(t),
+        Some(place) => count_pair(note(list, t, place)),
     }
 }

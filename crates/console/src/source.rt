@@ -36,20 +36,14 @@ fn path_of(name: &[u8]) -> io::Result<&str>
 pub fn open<R: Files>(rt: &R, name: &[u8]) -> io::Result<R::File>
     ensures { ¬ (IsUtf8 name.now) → IsErrAnd result (λ e. error_kind e ≡ ErrorKind.InvalidInput) }
 {
-    match path_of(name) {
-        Ok(path) => File::open(rt, path),
-        Err(e) => Err(e),
-    }
+    File::open(rt, path_of(name)?)
 }
 
 // Opens a file to be written, which is made, or emptied where it is there; a name that is not UTF-8 is refused.
 pub fn create<R: Files>(rt: &R, name: &[u8]) -> io::Result<R::File>
     ensures { ¬ (IsUtf8 name.now) → IsErrAnd result (λ e. error_kind e ≡ ErrorKind.InvalidInput) }
 {
-    match path_of(name) {
-        Ok(path) => File::create(rt, path),
-        Err(e) => Err(e),
-    }
+    File::create(rt, path_of(name)?)
 }
 
 // Whether what was opened can be read, which a folder cannot. No byte is taken.
@@ -57,8 +51,6 @@ pub fn try_reading<R: Read>(source: &mut R) -> io::Result<()>
     ensures { Keeps (R.remaining source.old) (R.remaining source.new) }
 {
     let mut none = [0u8; 1];
-    match source.read(&mut none[..0]) {
-        Ok(_) => Ok(()),
-        Err(e) => Err(e),
-    }
+    source.read(&mut none[..0])?;
+    Ok(())
 }

@@ -1,15 +1,13 @@
--- What the code makes of a cookie that was given, in one value. No document has it: it carries `right` and `cookie_under` to the code.
+-- What the code makes of an opening's option, in one value. No document has it: it carries `right` and `cookie_under` to the code.
 -- Assumes nothing.
-use Rattle.std.specs.Prelude.{ℕ, List, not}
-use Rattle.protocol.specs.Cookie.{cookie, cookie_under, right_under, right}
+use Rattle.std.specs.Prelude.{ℕ, List, Option, None, Some, cond, not, ◌&&◌}
+use Rattle.protocol.specs.Cookie.{Carried, counts, cookie_under, right_under, right}
 use Rattle.protocol.specs.declared.state.Keys.{Keys}
 use Rattle.cookie.specs.declared.OptionCheck.{OptionCheck}
 
--- whether it is right, and whether the fresh one, under the present key, is to replace it
-abbrev pub cookie_check : Keys → List ℕ → List ℕ → OptionCheck
-cookie_check k b given =
-    record {
-      right = right k b (cookie given);
-      fresh = not (right_under k.present b (cookie given));
-      cookie = cookie_under k.present b;
-    }
+-- the fresh cookie, under the present key, that goes with the SYN-ACK to an option that counts, unless it has that very one
+abbrev pub fresh_for : Keys → List ℕ → Carried → Option (List ℕ)
+fresh_for k b o = cond (counts o && not (right_under k.present b o)) (Some (cookie_under k.present b)) None
+
+abbrev pub option_check : Keys → List ℕ → Carried → OptionCheck
+option_check k b o = record { right = right k b o; fresh = fresh_for k b o }

@@ -1,7 +1,9 @@
 -- The rules on the parts of a view are the rules on the view. Assumes nothing.
+use Rattle.std.specs.Prelude.{Err, Ok, None, Some, is_some}
+use Rattle.std.specs.Option.{unwrap_or}
 use Prim.Native.Nat.{ℕ, ◌≤◌}
 use mathlib.Core.Path.{◌≡◌, refl, ap, sym, ◌∙◌}
-use mathlib.Core.Bool.{Bool, true, false, cond, ◌&&◌, true≢false, false≢true}
+use mathlib.Core.Bool.{Bool, true, false, cond, ◌&&◌, ◌||◌, true≢false, false≢true, and-true, and-false}
 use mathlib.Core.List.{List}
 use native.Mathlib.Omega.{arith}
 use lib.Dec.{ltb}
@@ -9,8 +11,7 @@ use borrow.Author.Tests.{ltb-true, lt-ltb}
 use Rattle.segment.specs.Header.{fields_of, kind_of, option_area}
 use Rattle.segment.specs.Options.{read_options, is_counted, coding_of}
 use Rattle.segment.specs.declared.refusal.Refusal.{Refusal}
-use Rattle.segment.specs.declared.refusal.Check.{Check}
-use Rattle.segment.specs.declared.refusal.Check.TheVariants.{Clear, Refused}
+use Rattle.segment.specs.Refusal.{Check, all_clear}
 use Rattle.segment.specs.declared.options.FastOpenOption.{FastOpenOption}
 use Rattle.segment.specs.declared.options.FastOpenOption.TheVariants.{Absent, Request, Cookie}
 use Rattle.segment.specs.declared.options.Options.{Options}
@@ -18,7 +19,7 @@ use Rattle.segment.specs.declared.header.Header.{Header}
 use Rattle.segment.specs.declared.header.Kind.{Kind}
 use Rattle.segment.specs.declared.header.Kind.TheVariants.{Syn, Rst, Ack, Other}
 use Rattle.segment.proofs.Cookie.{syn-options}
-use Rattle.protocol.specs.Cookie.{nothing, found, right}
+use Rattle.protocol.specs.Cookie.{Carried, nothing, found, cookie_under, right}
 use Rattle.protocol.specs.Refusals.{kind_checks}
 use Rattle.protocol.specs.Table.{new_slot}
 use Rattle.protocol.specs.Step.{cookies_enabled, is_early, is_fresh, new_event, new_status, segment_event, slot_after, writes_syn_ack, fresh_with, coding_for}
@@ -27,7 +28,9 @@ use Rattle.protocol.specs.declared.state.View.{View}
 use Rattle.protocol.proofs.Cookie.{carried-syn, never_right, no_cookie}
 use Rattle.protocol.proofs.Openings.{early_is, fresh_is}
 use Rattle.decisions.specs.Parts.{has_kind, is_opening, opening_checks, opening_check, limit_allows, slots_to_count, option_if, is_fresh_for, later_checks, later_event, later_slot}
-use Rattle.decisions.specs.declared.checks.OpeningCheck.TheVariants as openings
+use Rattle.decisions.specs.Received.{received}
+use Rattle.decisions.specs.declared.checks.OpeningKind.TheVariants.{Repeat, New}
+use Rattle.cookie.specs.Check.{fresh_for}
 
 -- Kinds
 
@@ -45,20 +48,45 @@ opening-kind Other e = absurd (false≢true e)
 
 -- What an opening's checks came to
 
-pub was_refused : (c : Check) (free : Bool) {r : Refusal} → opening_check c free ≡ openings.Refused r → c ≡ Refused r
-was_refused (Refused q) free e = cc
-was_refused Clear true e = absurd (let z : ◌≡◌ {A = ℕ} 0 1 = cc in omega arith)
-was_refused Clear false e = absurd (let z : ◌≡◌ {A = ℕ} 0 1 = cc in omega arith)
+pub was_refused : (c : Check) (free : Bool) {r : Refusal} → opening_check c free ≡ Err r → c ≡ Err r
+was_refused (Err q) free e = cc
+was_refused (Ok _) true e = absurd (let z : ◌≡◌ {A = ℕ} 0 1 = cc in omega arith)
+was_refused (Ok _) false e = absurd (let z : ◌≡◌ {A = ℕ} 0 1 = cc in omega arith)
 
-pub was_repeat : (c : Check) (free : Bool) → opening_check c free ≡ openings.Repeat → (c ≡ Clear) × (free ≡ false)
-was_repeat (Refused q) free e = absurd (let z : ◌≡◌ {A = ℕ} 0 1 = cc in omega arith)
-was_repeat Clear true e = absurd (let z : ◌≡◌ {A = ℕ} 0 1 = cc in omega arith)
-was_repeat Clear false e = (refl, refl)
+pub was_repeat : (c : Check) (free : Bool) → opening_check c free ≡ Ok Repeat → (c ≡ all_clear) × (free ≡ false)
+was_repeat (Err q) free e = absurd (let z : ◌≡◌ {A = ℕ} 0 1 = cc in omega arith)
+was_repeat (Ok _) true e = absurd (let z : ◌≡◌ {A = ℕ} 0 1 = cc in omega arith)
+was_repeat (Ok _) false e = (refl, refl)
 
-pub was_new : (c : Check) (free : Bool) → opening_check c free ≡ openings.New → (c ≡ Clear) × (free ≡ true)
-was_new (Refused q) free e = absurd (let z : ◌≡◌ {A = ℕ} 0 1 = cc in omega arith)
-was_new Clear true e = (refl, refl)
-was_new Clear false e = absurd (let z : ◌≡◌ {A = ℕ} 0 1 = cc in omega arith)
+pub was_new : (c : Check) (free : Bool) → opening_check c free ≡ Ok New → (c ≡ all_clear) × (free ≡ true)
+was_new (Err q) free e = absurd (let z : ◌≡◌ {A = ℕ} 0 1 = cc in omega arith)
+was_new (Ok _) true e = (refl, refl)
+was_new (Ok _) false e = absurd (let z : ◌≡◌ {A = ℕ} 0 1 = cc in omega arith)
+
+-- `received` by the checks
+pub was_stopped : (c : Check) (h : Header) {r : Refusal} → received c h ≡ Err r → c ≡ Err r
+was_stopped (Ok _) h e = absurd (let z : ◌≡◌ {A = ℕ} 0 1 = cc in omega arith)
+was_stopped (Err r) h e = let q = e in cc
+
+pub was_read : (c : Check) (h : Header) {x : Header} → received c h ≡ Ok x → (c ≡ all_clear) × (x ≡ h)
+was_read (Ok _) h e = (refl, let q = e in cc)
+was_read (Err r) h e = absurd (let z : ◌≡◌ {A = ℕ} 0 1 = cc in omega arith)
+
+-- the fresh cookie that goes with a SYN-ACK, if any
+module _ (keys : Keys) (b : List ℕ) (o : Carried) where
+  pub fresh_there : is_some (fresh_for keys b o) ≡ is_fresh_for keys b o
+  fresh_there = go (is_fresh_for keys b o)
+    where
+      go : (x : Bool) → is_some (cond x (Some (cookie_under keys.present b)) None) ≡ x
+      go true = refl
+      go false = refl
+
+  pub fresh_cookie : is_some (fresh_for keys b o) ≡ true → (d : List ℕ) → unwrap_or (fresh_for keys b o) d ≡ cookie_under keys.present b
+  fresh_cookie e d = go (is_fresh_for keys b o) e
+    where
+      go : (x : Bool) → is_some (cond x (Some (cookie_under keys.present b)) None) ≡ true → unwrap_or (cond x (Some (cookie_under keys.present b)) None) d ≡ cookie_under keys.present b
+      go true q = refl
+      go false q = absurd (false≢true q)
 
 -- no option, allowed or not
 absent : (b : Bool) → cond b Absent Absent ≡ Absent
@@ -91,8 +119,15 @@ one_after_other true true c f = refl
 one_after_other true false c f = absent c
 one_after_other false b c f = absent c
 
+-- what an option has to pass, in the code's order
+passes-all : (a b c : Bool) (f : FastOpenOption) → is_counted f && ((a && b) && c) ≡ is_counted (cond (a && (b && c)) f Absent)
+passes-all true true true f = and-true (is_counted f)
+passes-all true true false f = and-false (is_counted f)
+passes-all true false c f = and-false (is_counted f)
+passes-all false b c f = and-false (is_counted f)
+
 -- it counts only where cookies are enabled, and then it is the one that was found
-counted-found : (enabled : Bool) (f : FastOpenOption) → is_counted (cond enabled f Absent) ≡ true → cond enabled f Absent ≡ f
+pub counted-found : (enabled : Bool) (f : FastOpenOption) → is_counted (cond enabled f Absent) ≡ true → cond enabled f Absent ≡ f
 counted-found false f e = absurd (false≢true e)
 counted-found true f e = refl
 
@@ -105,9 +140,20 @@ module _ (v : View) where
   pub opening-checks : (h : Header) → opening_checks v.slot v.vacant h ≡ kind_checks v h Syn
   opening-checks h = refl
 
-  -- The option is allowed by the settings and pending, and then by the share of the address: `seen` of it are counted, in no slot or in all,
-  -- where `from` are there.
+  -- The option is allowed by the settings, by pending, and by the share of the address, which is asked for where pending reaches it: `from` of them are its.
   module _ {pending from : ℕ} (below : v.below ≡ ltb pending v.settings.limit) (spare : v.spare ≡ ltb from v.settings.share) (some : from ≤ pending) where
+    has_spare : ltb pending v.settings.share || ltb from v.settings.share ≡ ltb from v.settings.share
+    has_spare = go (ltb pending v.settings.share) refl
+      where
+        go : (few : Bool) → ltb pending v.settings.share ≡ few → few || ltb from v.settings.share ≡ ltb from v.settings.share
+        go true e = sym (lt-ltb from v.settings.share (omega (arith, some, ltb-true pending v.settings.share e)))
+        go false e = refl
+
+    pub allowed_by_share : (read : FastOpenOption)
+        → is_counted read && (limit_allows v.settings pending && (ltb pending v.settings.share || ltb from v.settings.share)) ≡ is_counted (option_if (cookies_enabled v) read)
+    allowed_by_share read = rw (has_spare, below, spare) (passes-all v.settings.on (ltb pending v.settings.limit) (ltb from v.settings.share) read)
+
+    -- the same of the option itself, where `seen` of the address are counted, in no slot or in all
     pub by_share : (seen : ℕ) (read allowed : FastOpenOption) → allowed ≡ option_if (limit_allows v.settings pending) read
         → (slots_to_count v.settings.share pending allowed ≡ 0 → seen ≡ 0) → (slots_to_count v.settings.share pending allowed ≡ 64 → seen ≡ from)
         → option_if (ltb seen v.settings.share) allowed ≡ option_if (cookies_enabled v) read

@@ -1,29 +1,24 @@
 -- A segment's checks before its kind, from what the functions on the way ensure. Assumes nothing.
+use Rattle.std.specs.Prelude.{Err, Ok, None, Some}
 use Prim.Native.Nat.{ℕ}
-use mathlib.Core.Path.{◌≡◌, refl, sym, ap, ◌∙◌}
+use mathlib.Core.Path.{◌≡◌, sym, ap, ◌∙◌}
 use mathlib.Core.Bool.{Bool, true, false}
 use mathlib.Core.List.{List, ◌++◌}
-use native.Mathlib.Omega.{arith}
 use lib.ListN.{take}
 use borrow.Author.Tests.{eq-eqb, ne_eqb}
-use Rattle.segment.specs.Refusal.{refusal}
+use Rattle.segment.specs.Refusal.{refusal, Check, all_clear}
 use Rattle.segment.specs.Header.{fields_of, shape_of}
 use Rattle.segment.specs.Checksum.{checksum_right}
-use Rattle.segment.specs.declared.refusal.Refusal.{Refusal}
 use Rattle.segment.specs.declared.refusal.Refusal.TheVariants.{Format, Checksum, Port}
-use Rattle.segment.specs.declared.refusal.Check.{Check}
-use Rattle.segment.specs.declared.refusal.Check.TheVariants.{Clear, Refused}
 use Rattle.segment.specs.declared.header.Header.{Header}
-use Rattle.segment.specs.declared.header.Shape.TheVariants.{Malformed, WellFormed}
 use Rattle.segment.proofs.Malformed.{ill_shaped, well_shaped}
 use Rattle.endpoint.specs.Address.{size}
 use Rattle.endpoint.specs.Checks.{timely, addressed}
-use Rattle.endpoint.proofs.Chain.{stopped, passed}
+use Rattle.endpoint.proofs.Chain.{passed}
 use Rattle.protocol.specs.View.{own_address}
 use Rattle.protocol.specs.Refusals.{output_checks, wire_checks}
 use Rattle.decisions.specs.Received.{received}
 use Rattle.protocol.specs.declared.state.LocalEndpoint.{LocalEndpoint}
-use Rattle.decisions.specs.declared.checks.Received.TheVariants.{Dropped, Read}
 use Rattle.protocol.proofs.Refusals.{wire, wire-check}
 
 module _ (h : LocalEndpoint) (untimely : Bool) (src seg : List ℕ) (out_len : ℕ) where
@@ -36,48 +31,36 @@ module _ (h : LocalEndpoint) (untimely : Bool) (src seg : List ℕ) (out_len : �
   carried_on : {c : Check} → All ≡ c → received c (fields_of seg) ≡ received All (fields_of seg)
   carried_on e = ap (λ (c : Check). received c (fields_of seg)) (sym e)
 
-  pub dropped_before : {r : Refusal} → First ≡ Refused r → Dropped r ≡ received All (fields_of seg)
-  dropped_before e = carried_on (stopped _ _ _ (wire-check h untimely src out_len seg) e)
-
-  module _ (first : First ≡ Clear) where
+  module _ (first : First ≡ all_clear) where
     next : All ≡ wire h untimely src out_len seg
     next = passed _ _ _ (wire-check h untimely src out_len seg) first
 
-    pub dropped_shape : shape_of seg ≡ Malformed → Dropped Format ≡ received All (fields_of seg)
+    pub dropped_shape : shape_of seg ≡ None → Err Format ≡ received All (fields_of seg)
     dropped_shape e =
-        let at : wire h untimely src out_len seg ≡ Refused Format = rw (ill_shaped seg e) in
+        let at : wire h untimely src out_len seg ≡ Err Format = rw (ill_shaped seg e) in
         carried_on (next ∙ at)
 
-    module _ {x : Header} (shape : shape_of seg ≡ WellFormed x) {n : ℕ} (size_is : n ≡ size h.family) {right : Bool}
+    module _ {x : Header} (shape : shape_of seg ≡ Some x) {n : ℕ} (size_is : n ≡ size h.family) {right : Bool}
         (sum : right ≡ checksum_right src (take n h.own) seg) where
       summed : checksum_right src (own_address h) seg ≡ right
       summed = rw size_is at (sym sum)
 
-      pub dropped_sum : right ≡ false → Dropped Checksum ≡ received All (fields_of seg)
+      pub dropped_sum : right ≡ false → Err Checksum ≡ received All (fields_of seg)
       dropped_sum k =
-          let at : wire h untimely src out_len seg ≡ Refused Checksum = rw ((well_shaped seg x shape).0, summed ∙ k) in
+          let at : wire h untimely src out_len seg ≡ Err Checksum = rw ((well_shaped seg x shape).0, summed ∙ k) in
           carried_on (next ∙ at)
 
       module _ (k : right ≡ true) where
-        pub dropped_port : (x.dest ≡ h.port → ⊥) → Dropped Port ≡ received All (fields_of seg)
+        pub dropped_port : (x.dest ≡ h.port → ⊥) → Err Port ≡ received All (fields_of seg)
         dropped_port d =
             let w = well_shaped seg x shape in
             let no = ne_eqb (fields_of seg).dest h.port (λ e. d (ap (λ (y : Header). y.dest) w.1 ∙ e)) in
-            let at : wire h untimely src out_len seg ≡ Refused Port = rw (w.0, summed ∙ k, no) in
+            let at : wire h untimely src out_len seg ≡ Err Port = rw (w.0, summed ∙ k, no) in
             carried_on (next ∙ at)
 
-        pub read : x.dest ≡ h.port → Read x ≡ received All (fields_of seg)
+        pub read : x.dest ≡ h.port → Ok x ≡ received All (fields_of seg)
         read d =
             let w = well_shaped seg x shape in
             let yes = eq-eqb (fields_of seg).dest h.port (sym (ap (λ (y : Header). y.dest) w.1) ∙ d) in
-            let at : wire h untimely src out_len seg ≡ Clear = rw (w.0, summed ∙ k, yes) in
-            ap (λ (y : Header). Read y) w.1 ∙ carried_on (next ∙ at)
-
--- `received` by the checks
-pub was_dropped : (c : Check) (h : Header) {r : Refusal} → received c h ≡ Dropped r → c ≡ Refused r
-was_dropped Clear h e = absurd (let z : ◌≡◌ {A = ℕ} 0 1 = cc in omega arith)
-was_dropped (Refused r) h e = let q = e in cc
-
-pub was_read : (c : Check) (h : Header) {x : Header} → received c h ≡ Read x → (c ≡ Clear) × (x ≡ h)
-was_read Clear h e = (refl, let q = e in cc)
-was_read (Refused r) h e = absurd (let z : ◌≡◌ {A = ℕ} 0 1 = cc in omega arith)
+            let at : wire h untimely src out_len seg ≡ all_clear = rw (w.0, summed ∙ k, yes) in
+            ap (λ (y : Header). Ok y) w.1 ∙ carried_on (next ∙ at)

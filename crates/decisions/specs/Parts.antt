@@ -1,19 +1,20 @@
 -- The rules, on the parts of a view that each of them reads. No document has it: it carries `kind_checks`, `cookies_enabled`, `is_early`, `is_fresh`, `segment_event` and `slot_after` to the code,
 -- which makes no view.
 -- Assumes nothing.
-use Rattle.std.specs.Prelude.{ℕ, List, [], ◌∷◌, Bool, true, false, cond, not, ◌&&◌, ◌||◌, ltb}
+use Rattle.std.specs.Prelude.{ℕ, List, [], ◌∷◌, Bool, true, false, cond, not, ◌&&◌, ◌||◌, ltb, Result, Err, Ok}
 use Rattle.segment.specs.Refusal.{Checks}
+use Rattle.segment.specs.declared.refusal.Refusal.{Refusal}
 use Rattle.segment.specs.Options.{is_counted}
 use Rattle.segment.specs.declared.refusal.Refusal.TheVariants.{Flags, NameInUse, TableFull}
-use Rattle.segment.specs.declared.refusal.Check.{Check}
-use Rattle.segment.specs.declared.refusal.Check.TheVariants.{Clear, Refused}
+use Rattle.segment.specs.Refusal.{Check}
 use Rattle.segment.specs.declared.options.FastOpenOption.{FastOpenOption}
 use Rattle.segment.specs.declared.options.FastOpenOption.TheVariants.{Absent}
 use Rattle.segment.specs.declared.header.Header.{Header}
 use Rattle.segment.specs.declared.header.Kind.{Kind}
 use Rattle.segment.specs.declared.header.Kind.TheVariants.{Syn, Rst, Ack, Other}
-use Rattle.protocol.specs.Cookie.{Carried, counts, right_under}
-use Rattle.protocol.specs.Table.{slot_count, is_free, after_reset, with_status}
+use Rattle.protocol.specs.Cookie.{Carried, counts, right_under, right}
+use Rattle.protocol.specs.Table.{slot_count, is_free, after_reset, new_slot, with_status}
+use Rattle.protocol.specs.Step.{new_event, new_status}
 use Rattle.protocol.specs.Refusals.{repeats, completes, resets, sequence_checks}
 use Rattle.protocol.specs.declared.state.Keys.{Keys}
 use Rattle.protocol.specs.declared.state.StoredSettings.{StoredSettings}
@@ -21,8 +22,10 @@ use Rattle.protocol.specs.declared.slots.Status.TheVariants.{Established}
 use Rattle.protocol.specs.declared.slots.Slot.{Slot}
 use Rattle.protocol.specs.declared.outcome.Event.{Event}
 use Rattle.protocol.specs.declared.outcome.Event.TheVariants as events
-use Rattle.decisions.specs.declared.checks.OpeningCheck.{OpeningCheck}
-use Rattle.decisions.specs.declared.checks.OpeningCheck.TheVariants as openings
+use Rattle.cookie.specs.Check.{fresh_for}
+use Rattle.decisions.specs.declared.action.Opened.{Opened}
+use Rattle.decisions.specs.declared.checks.OpeningKind.{OpeningKind}
+use Rattle.decisions.specs.declared.checks.OpeningKind.TheVariants.{Repeat, New}
 
 -- not 6
 abbrev pub has_kind : Kind → Bool
@@ -46,10 +49,10 @@ opening_checks s vacant h =
     ∷ (TableFull, not (not (is_free s.status) || vacant)) ∷ []
 
 -- what they come to, where the slot is free or not: refused, new, or a repeat
-abbrev pub opening_check : Check → Bool → OpeningCheck
-opening_check (Refused r) free = openings.Refused r
-opening_check Clear true = openings.New
-opening_check Clear false = openings.Repeat
+abbrev pub opening_check : Check → Bool → Result OpeningKind Refusal
+opening_check (Err r) free = Err r
+opening_check (Ok _) true = Ok New
+opening_check (Ok _) false = Ok Repeat
 
 -- Fast Open is on, and with so many pending it is below the limit; the share is asked for apart
 abbrev pub limit_allows : StoredSettings → ℕ → Bool
@@ -67,6 +70,15 @@ option_if allowed fast = cond allowed fast Absent
 -- a fresh cookie goes with the SYN-ACK to an option
 abbrev pub is_fresh_for : Keys → List ℕ → Carried → Bool
 is_fresh_for keys b o = counts o && not (right_under keys.present b o)
+
+-- a new connection by its option, where so many bytes would be accepted
+abbrev pub opened : Keys → List ℕ → Header → ℕ → Carried → ℕ → Opened
+opened keys b h iss o n =
+    record {
+      event = new_event (right keys b o) n;
+      slot = new_slot b h.source h.seq iss (new_status (right keys b o) n);
+      fresh = fresh_for keys b o;
+    }
 
 -- Later segments: a completion or a reset. What stands at the other two kinds is never used.
 

@@ -1,12 +1,11 @@
 -- What the code makes of a segment's first checks. No document has it: it carries the checks before a segment's kind to the code.
 -- Assumes nothing.
-use Rattle.segment.specs.declared.refusal.Check.{Check}
-use Rattle.segment.specs.declared.refusal.Check.TheVariants.{Clear, Refused}
+use Rattle.std.specs.Prelude.{Result, Err, Ok}
+use Rattle.segment.specs.Refusal.{Check}
 use Rattle.segment.specs.declared.header.Header.{Header}
-use Rattle.decisions.specs.declared.checks.Received.{Received}
-use Rattle.decisions.specs.declared.checks.Received.TheVariants.{Dropped, Read}
+use Rattle.segment.specs.declared.refusal.Refusal.{Refusal}
 
 -- a segment that passes the first checks is read
-abbrev pub received : Check → Header → Received
-received Clear h = Read h
-received (Refused r) h = Dropped r
+abbrev pub received : Check → Header → Result Header Refusal
+received (Ok _) h = Ok h
+received (Err r) h = Err r

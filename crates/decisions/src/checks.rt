@@ -15,9 +15,9 @@ use protocol::state::{
     LEAST_SHARE, LocalEndpoint, MOST_EARLY_ROOM, MOST_HOLD, MOST_LIMIT, MOST_SHARE, Settings,
 };
 use segment::checksum::is_checksum_right;
-use segment::header::{Header, Kind, Shape, read_header};
+use segment::header::{Header, Kind, read_header};
 use segment::options::{LEAST_MSS, MOST_MSS};
-use segment::refusal::{Check, Refusal};
+use segment::refusal::Refusal;
 use segment::sequence::{in_window, next_after};
 use segment::write::LONGEST_SYN_ACK;
 use table::slot::{accepted_with, is_established, is_free, is_waiting};
@@ -29,30 +29,17 @@ pub fn check_output(
     time: u64,
     addr: &[u8],
     out_len: usize,
-) -> Check
+) -> Result<(), Refusal>
     ensures { result ≡ refusal (timely local.started (is_untimely clock time) ++ addressed local.family addr.now ++ output_checks out_len) }
 {
-    let family = local.family;
-    match check_name(local.started, family, clock, time, addr) {
-        Check::Refused(why) => Check::Refused(why),
-        Check::Clear => {
-            if out_len < LONGEST_SYN_ACK {
-                Check::Refused(Refusal::Output)
-            } else {
-                Check::Clear
-            }
-        }
+    check_name(local.started, local.family, clock, time, addr)?;
+    if out_len < LONGEST_SYN_ACK {
+        return Err(Refusal::Output);
     }
+    Ok(())
 }
 
-// A segment that passed the checks before its kind, or the refusal.
-#[derive(Clone, Copy, Drop)]
-pub enum Received {
-    Dropped(Refusal),
-    Read(Header),
-}
-
-// 13, 5, 2, 11, 1, 3 and 4.
+// 13, 5, 2, 11, 1, 3 and 4, of a segment of any kind.
 pub fn receive(
     local: LocalEndpoint,
     clock: u64,
@@ -60,150 +47,117 @@ pub fn receive(
     src: &[u8],
     seg: &[u8],
     out_len: usize,
-) -> Received
+) -> Result<Header, Refusal>
     ensures { result ≡ received (refusal (wire_checks local (is_untimely clock time) src.now seg.now out_len)) (fields_of seg.now) }
 {
-    match check_output(local, clock, time, src, out_len) {
-        Check::Refused(why) => Received::Dropped(why),
-        Check::Clear => match read_header(seg) {
-            Shape::Malformed => Received::Dropped(Refusal::Format),
-            Shape::WellFormed(h) => {
-                let family = local.family;
-                let own = local.own;
-                let n = size_of(family);
-                if !is_checksum_right(src, &own[..n], seg) {
-                    return Received::Dropped(Refusal::Checksum);
-                }
-                if h.dest != local.port {
-                    return Received::Dropped(Refusal::Port);
-                }
-                Received::Read(h)
-            }
-        },
+    check_output(local, clock, time, src, out_len)?;
+    let h = read_header(seg).ok_or(Refusal::Format)?;
+    let n = size_of(local.family);
+    if !is_checksum_right(src, &local.own[..n], seg) {
+        return Err(Refusal::Checksum);
     }
+    if h.dest != local.port {
+        return Err(Refusal::Port);
+    }
+    Ok(h)
 }
 
 // Whether an opening repeats the one that the slot was made for.
+#[tactic(auto, unfolding(protocol::specs::Refusals::repeats))]
 fn is_repeat(s: Slot, h: Header) -> bool
     ensures { result ≡ repeats s h }
 {
-    let status = s.status;
-    if !is_waiting(status) {
-        return false;
-    }
-    h.seq == s.irs
+    is_waiting(s.status) && h.seq == s.irs
 }
 
 // The sequence number that the peer's next segment is to have.
 fn expected_of(s: Slot) -> u32
     ensures { result ≡ expected s }
 {
-    let status = s.status;
-    next_after(s.irs, accepted_with(status))
+    next_after(s.irs, accepted_with(s.status))
 }
 
 // Whether a completion's numbers are admitted, for this slot.
+#[tactic(auto, unfolding(protocol::specs::Refusals::completes))]
 fn admits_completion(s: Slot, h: Header) -> bool
     ensures { result ≡ completes s h }
 {
-    if !in_window(expected_of(s), h.seq) {
-        return false;
-    }
-    h.ack == next_after(s.iss, 0)
+    in_window(expected_of(s), h.seq) && h.ack == next_after(s.iss, 0)
 }
 
 // Whether a reset's number is admitted, for this slot.
+#[tactic(auto, unfolding(protocol::specs::Refusals::resets))]
 fn admits_reset(s: Slot, h: Header) -> bool
     ensures { result ≡ resets s h }
 {
     h.seq == expected_of(s)
 }
 
-// An opening is refused, repeats the one that the slot was made for, or is new.
+// An opening that is not refused repeats the one that the slot was made for, or is new.
 #[derive(Clone, Copy, Drop)]
-pub enum OpeningCheck {
-    Refused(Refusal),
+pub enum OpeningKind {
     Repeat,
     New,
 }
 
 // 7 and 8, from the peer's slot and whether any slot is free.
-pub fn check_opening(slot: Slot, vacant: bool, h: Header) -> OpeningCheck
+pub fn check_opening(slot: Slot, vacant: bool, h: Header) -> Result<OpeningKind, Refusal>
     ensures { result ≡ opening_check (refusal (opening_checks slot vacant h)) (is_free slot.status) }
 {
-    let status = slot.status;
-    if is_free(status) {
+    if is_free(slot.status) {
         if vacant {
-            return OpeningCheck::New;
+            return Ok(OpeningKind::New);
         }
-        return OpeningCheck::Refused(Refusal::TableFull);
+        return Err(Refusal::TableFull);
     }
     if is_repeat(slot, h) {
-        return OpeningCheck::Repeat;
+        return Ok(OpeningKind::Repeat);
     }
-    OpeningCheck::Refused(Refusal::NameInUse)
+    Err(Refusal::NameInUse)
 }
 
 // 9 and 10, where `admitted` is whether the numbers are.
-fn check_sequence(s: Slot, admitted: bool) -> Check
+fn check_sequence(s: Slot, admitted: bool) -> Result<(), Refusal>
     ensures { result ≡ refusal (sequence_checks s admitted) }
 {
-    let status = s.status;
-    if !is_waiting(status) {
-        return Check::Refused(Refusal::NoConnection);
+    if !is_waiting(s.status) {
+        return Err(Refusal::NoConnection);
     }
     if !admitted {
-        return Check::Refused(Refusal::Sequence);
+        return Err(Refusal::Sequence);
     }
-    Check::Clear
+    Ok(())
 }
 
 // Not 6: the flags are those of an opening, a completion or a reset.
 pub fn has_kind(kind: Kind) -> bool
     ensures { result ≡ has_kind kind }
 {
-    match kind {
-        Kind::Syn => true,
-        Kind::Rst => true,
-        Kind::Ack => true,
-        Kind::Other => false,
-    }
+    !matches!(kind, Kind::Other)
 }
 
 // 9 and 10, of a completion or a reset.
-pub fn check_later(slot: Slot, h: Header, kind: Kind) -> Check
+pub fn check_later(slot: Slot, h: Header, kind: Kind) -> Result<(), Refusal>
     ensures { result ≡ refusal (later_checks slot h kind) }
 {
     match kind {
-        Kind::Syn => Check::Refused(Refusal::Flags),
         Kind::Ack => check_sequence(slot, admits_completion(slot, h)),
         Kind::Rst => check_sequence(slot, admits_reset(slot, h)),
-        Kind::Other => Check::Refused(Refusal::Flags),
+        Kind::Syn | Kind::Other => Err(Refusal::Flags),
     }
 }
 
+#[tactic(auto, unfolding(protocol::specs::Refusals::in_range))]
 pub fn is_in_range(g: Settings) -> bool
     ensures { result ≡ in_range g }
 {
-    if MOST_LIMIT < g.limit {
-        return false;
-    }
-    if MOST_EARLY_ROOM < g.early_room {
-        return false;
-    }
-    if MOST_HOLD < g.hold {
-        return false;
-    }
-    if g.mss < LEAST_MSS {
-        return false;
-    }
-    if MOST_MSS < g.mss {
-        return false;
-    }
-    if g.share < LEAST_SHARE {
-        return false;
-    }
-    g.share <= MOST_SHARE
+    g.limit <= MOST_LIMIT
+        && g.early_room <= MOST_EARLY_ROOM
+        && g.hold <= MOST_HOLD
+        && LEAST_MSS <= g.mss
+        && g.mss <= MOST_MSS
+        && LEAST_SHARE <= g.share
+        && g.share <= MOST_SHARE
 }
 
 // Whether a call by name may free the connection: close an established one, abandon one that waits.
@@ -211,7 +165,8 @@ pub fn is_releasable(established: bool, s: Status) -> bool
     ensures { result ≡ is_releasable established s }
 {
     if established {
-        return is_established(s);
+        is_established(s)
+    } else {
+        is_waiting(s)
     }
-    is_waiting(s)
 }

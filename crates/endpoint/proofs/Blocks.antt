@@ -1,14 +1,14 @@
 -- Blocks and lengths of addresses, and bytes copied into an array of zeros. Assumes nothing.
-use Prim.Native.Nat.{ℕ, zero, suc, ◌-◌, ◌≤◌, ◌<◌}
+use Prim.Native.Nat.{ℕ, ◌≤◌}
 use mathlib.Core.Path.{◌≡◌, refl, sym, ap, ◌∙◌}
 use mathlib.Core.Bool.{Bool, true, false, ◌||◌}
 use mathlib.Core.List.{List, ◌++◌, append-nil}
 use native.Mathlib.Omega.{arith}
-use native.Mathlib.Numerals.{unary_clauses}
 use borrow.Author.Tests.{eqb-true, eq-eqb}
 use lib.Dec.{eqb}
-use lib.ListN.{length, take, drop, replicate, drop_of_length-le, length-replicate}
+use lib.ListN.{length, take, drop, replicate}
 use lib.Seq.{take_all, length-take-le}
+use Rattle.std.proofs.lemmas.List.{drop-replicate}
 use Rattle.segment.specs.Checksum.{one_family}
 use Rattle.endpoint.specs.Address.{size, is_size, is_address, block}
 use Rattle.endpoint.specs.declared.address.Family.{Family}
@@ -66,38 +66,10 @@ kept a h e = e ∙ ap block (take_all 16 a h)
 
 -- Copies
 
-drop_zeros : (n m x : ℕ) → drop n (replicate m x) ≡ replicate (m - n) x
-drop_zeros zero zero x = refl
-drop_zeros zero (suc m) x = simp unary_clauses refl
-drop_zeros (suc n) zero x = ap (λ (k : ℕ). replicate k x) (let e : 0 ≡ 0 - suc n = omega arith in e)
-drop_zeros (suc n) (suc m) x = simp unary_clauses (drop_zeros n m x)
+-- an array of zeros with some bytes written over its start is their block
+pub block_is : (a : List ℕ) → a ++ drop (length a) (replicate 16 0) ≡ block a
+unfolding block
+block_is a = rw (drop-replicate {X = ℕ} (length a) 16 0)
 
 pub copied_block : (a : List ℕ) {r : List ℕ} → r ≡ take (length a) a ++ drop (length a) (replicate 16 0) → r ≡ block a
-unfolding block
-copied_block a e = e ∙ rw (take_all (length a) a (omega arith), drop_zeros (length a) 16 0)
-
-pub copied_whole : (a : List ℕ) {r : List ℕ} → length a ≡ 16 → r ≡ take (length a) a ++ drop (length a) (replicate 16 0) → r ≡ a
-copied_whole a h e =
-    e ∙ rw (take_all (length a) a (omega arith), drop_of_length-le {A = ℕ} (replicate 16 0) {i = length a} (omega (arith, length-replicate {A = ℕ} 16 0))) (append-nil a)
-
--- Addresses cut to 16 bytes
-
--- the first n bytes are the first 16, or all if there are fewer
-abbrev pub Cut : List ℕ → ℕ → Type 0
-Cut a n = (n ≤ length a) × (n ≤ 16) × (take n a ≡ take 16 a)
-
-pub cut_long : (a : List ℕ) (n : ℕ) → 16 < length a → n ≡ 16 → Cut a n
-cut_long a n h e = (omega arith, omega arith, ap (λ (k : ℕ). take k a) e)
-
-pub cut_short : (a : List ℕ) (n : ℕ) → length a ≤ 16 → n ≡ length a → Cut a n
-cut_short a n h e = (omega arith, omega arith, take_all n a (omega arith) ∙ sym (take_all 16 a h))
-
-module _ (a : List ℕ) (n : ℕ) (cut : Cut a n) where
-  pub cut_count : n ≡ length (take n a)
-  cut_count = sym (length-take-le n a cut.0)
-
-  pub cut_most : length (take n a) ≤ 16
-  cut_most = omega (arith, cut.1, cut_count)
-
-  pub cut_block : {r : List ℕ} → r ≡ take (length (take n a)) (take n a) ++ drop (length (take n a)) (replicate 16 0) → r ≡ block (take 16 a)
-  cut_block e = copied_block (take n a) e ∙ ap block cut.2
+copied_block a e = e ∙ ap (λ (x : List ℕ). x ++ drop (length a) (replicate 16 0)) (take_all (length a) a (omega arith)) ∙ block_is a

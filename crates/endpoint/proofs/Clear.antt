@@ -3,10 +3,9 @@ use mathlib.Core.Path.{◌≡◌, refl}
 use mathlib.Core.Bool.{Bool, true, false, cond, ◌||◌}
 use mathlib.Core.List.{[], ◌∷◌}
 use borrow.Author.Tests.{eq-eqb}
-use Rattle.segment.specs.Refusal.{number_of, order, Checks, same, applies, refusal}
+use Rattle.segment.specs.Refusal.{number_of, order, Checks, same, applies, refusal, all_clear}
 use Rattle.segment.specs.declared.refusal.Refusal.{Refusal}
 use Rattle.segment.specs.declared.refusal.Refusal.TheVariants.{Format, Address, Checksum, Port, Time, Flags, NameInUse, TableFull, NoConnection, Sequence, Output, Range, NotStarted, CutRecord, BadCapture}
-use Rattle.segment.specs.declared.refusal.Check.TheVariants.{Clear}
 use Rattle.lists.proofs.Bools.{or_false}
 use Rattle.segment.proofs.NumberOf.{None, none-applies}
 use Rattle.lists.proofs.Sums.{All}
@@ -32,7 +31,7 @@ ordered cs n Sequence = n.1.1.1.1.1.1.1.1.1.1.1.1.1.1.0
 abbrev pub Passed : Checks → Type 0
 Passed cs = All (λ c. c.1 ≡ false) cs
 
-pub every-check : (cs : Checks) → refusal cs ≡ Clear → Passed cs
+pub every-check : (cs : Checks) → refusal cs ≡ all_clear → Passed cs
 every-check cs e = go cs (ordered cs (none-applies order cs e))
   where
     rest : (s a b : Bool) → cond s (a || b) a ≡ false → a ≡ false

@@ -26,10 +26,7 @@ pub fn size_of(f: Family) -> usize
 pub fn is_size(n: usize) -> bool
     ensures { result ≡ is_size n }
 {
-    if n == 4 {
-        return true;
-    }
-    n == 16
+    matches!(n, 4 | 16)
 }
 
 // The family whose addresses have n bytes; IPv6 where there is none.
@@ -49,9 +46,8 @@ pub fn is_address(f: Family, addr: &[u8]) -> bool
 pub fn block_of(addr: &[u8]) -> [u8; 16]
     ensures { result ≡ block (take 16 addr.now) }
 {
-    let mut b = [0u8; 16];
-    let n = if 16 < addr.len() { 16 } else { addr.len() };
-    copy(&addr[..n], &mut b);
+    let mut b = [0; 16];
+    copy(addr, &mut b);
     b
 }
 
@@ -60,10 +56,8 @@ pub fn same_block(a: [u8; 16], b: [u8; 16]) -> bool
     ensures { result ≡ same_bytes a b }
 {
     let mut same = true;
-    for i in 0..16 {
-        if a[i] != b[i] {
-            same = false;
-        }
+    for (x, y) in a.iter().zip(&b) {
+        same &= x == y;
     }
     same
 }
@@ -72,8 +66,5 @@ pub fn same_block(a: [u8; 16], b: [u8; 16]) -> bool
 pub fn same_name(p: u16, q: u16, a: [u8; 16], b: [u8; 16]) -> bool
     ensures { result ≡ same_name p q a b }
 {
-    if p != q {
-        return false;
-    }
-    same_block(a, b)
+    p == q && same_block(a, b)
 }

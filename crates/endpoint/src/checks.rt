@@ -4,7 +4,7 @@ ghost use Rattle.segment.specs.Refusal.{refusal};
 ghost use Rattle.endpoint.specs.Checks.{is_untimely, timely, addressed};
 
 use crate::address::{Family, is_address};
-use segment::refusal::{Check, Refusal};
+use segment::refusal::Refusal;
 
 // The last time that a call may carry, in ms: 2^48.
 pub const LAST_TIME: u64 = 281474976710656;
@@ -13,37 +13,35 @@ pub const LAST_TIME: u64 = 281474976710656;
 pub fn is_untimely(clock: u64, time: u64) -> bool
     ensures { result ≡ is_untimely clock time }
 {
-    if time < clock {
-        return true;
-    }
-    LAST_TIME < time
+    time < clock || LAST_TIME < time
 }
 
 // 13 and 5.
-pub fn check_time(started: bool, clock: u64, time: u64) -> Check
+pub fn check_time(started: bool, clock: u64, time: u64) -> Result<(), Refusal>
     ensures { result ≡ refusal (timely started (is_untimely clock time)) }
 {
     if !started {
-        return Check::Refused(Refusal::NotStarted);
+        return Err(Refusal::NotStarted);
     }
     if is_untimely(clock, time) {
-        return Check::Refused(Refusal::Time);
+        return Err(Refusal::Time);
     }
-    Check::Clear
+    Ok(())
 }
 
 // 13, 5 and 2.
-pub fn check_name(started: bool, family: Family, clock: u64, time: u64, addr: &[u8]) -> Check
+pub fn check_name(
+    started: bool,
+    family: Family,
+    clock: u64,
+    time: u64,
+    addr: &[u8],
+) -> Result<(), Refusal>
     ensures { result ≡ refusal (timely started (is_untimely clock time) ++ addressed family addr.now) }
 {
-    match check_time(started, clock, time) {
-        Check::Refused(why) => Check::Refused(why),
-        Check::Clear => {
-            if is_address(family, addr) {
-                Check::Clear
-            } else {
-                Check::Refused(Refusal::Address)
-            }
-        }
+    check_time(started, clock, time)?;
+    if !is_address(family, addr) {
+        return Err(Refusal::Address);
     }
+    Ok(())
 }

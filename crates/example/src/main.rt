@@ -2,76 +2,81 @@
 // handshake is complete. Rattle proves the whole program without a proof file.
 #![tactic(auto)]
 
-mod ends;
-
 use client::calls::{answer, connect};
-use client::outcome::{ActiveOpen, Attempt, Event as ClientEvent, event_number as client_number};
+use client::outcome::{ActiveOpen, Attempt, Event as ClientEvent, event_count};
 use client::state::Memory;
-use console::streams::{Console, Streams};
-use ends::{Ends, finish, print_counts, print_line};
 use listener::calls::{pending, segment, set_settings};
 use listener::outcome::accepted_part;
 use protocol::outcome::Event;
 use protocol::state::{Listener, Settings};
 use segment::options::Codings;
-use segment::refusal::number;
+use segment::refusal::Refusal;
 use segment::write::{LONGEST_OPENING, LONGEST_SYN_ACK};
+use std::io::{Stdout, Write};
 use text::part::first;
 
 const CLIENT: [u8; 4] = [192, 0, 2, 1];
 
 const SERVER: [u8; 4] = [192, 0, 2, 2];
 
-// The client opens a connection and offers data, the listener takes the opening, the client takes the SYN-ACK. A refused call has changed nothing.
-fn exchange(streams: &mut Console, m: Memory, l: Listener, time: u64, port: u16) -> Ends {
-    let mut out = [0u8; LONGEST_OPENING];
+// Both ends, between two exchanges.
+#[derive(Drop)]
+struct Ends {
+    memory: Memory,
+    listener: Listener,
+}
+
+// How many bytes a client's call sent or had acknowledged, where it was done.
+fn bytes_of(event: ClientEvent) -> Result<u32, Refusal> {
+    match event {
+        ClientEvent::Refused(why) => Err(why),
+        done => Ok(event_count(done)),
+    }
+}
+
+// The client opens a connection and offers data, the listener takes the opening, the client takes the SYN-ACK.
+fn exchange(out: &mut Stdout, ends: Ends, time: u64, port: u16) -> Result<Ends, Refusal> {
+    let mut sent = [0u8; LONGEST_OPENING];
     let open = ActiveOpen {
         source: port,
         dest: 443,
         iss: 1000,
         mss: 1460,
     };
-    let opened = connect(m, time, &CLIENT, &SERVER, open, b"hello", &mut out);
-    let event = opened.event;
-    let ClientEvent::Opened(sent) = event else {
-        return finish(streams, m, l, client_number(event));
-    };
-    print_counts(
-        streams,
-        b"the client sends ",
-        opened.written,
-        b"data ",
-        sent,
+    let opened = connect(
+        ends.memory,
+        time,
+        &CLIENT,
+        &SERVER,
+        open,
+        b"hello",
+        &mut sent,
     );
+    let data = bytes_of(opened.event)?;
+    let opening = first(&sent, opened.written);
+    let _ = writeln!(out, "the client sends {} bytes, data {data}", opening.len());
 
-    let seg = first(&out, opened.written);
     let mut back = [0u8; LONGEST_SYN_ACK];
-    let taken = segment(l, time, &CLIENT, seg, 7000, &mut back);
-    let event = taken.event;
-    match event {
-        Event::Refused(why) => return finish(streams, m, l, number(why)),
-        Event::FastOpened(_) => print_line(
-            streams,
-            b"handed over early: ",
-            accepted_part(seg, event),
-        ),
-        _ => print_line(streams, b"handed over early: ", b"nothing"),
-    }
-    let n = pending(taken.listener);
-    print_counts(
-        streams,
-        b"the listener sends ",
-        taken.written,
-        b"pending ",
-        n,
+    let taken = segment(ends.listener, time, &CLIENT, opening, 7000, &mut back);
+    let early = match taken.event {
+        Event::Refused(why) => return Err(why),
+        Event::FastOpened(_) => accepted_part(opening, taken.event),
+        _ => b"nothing",
+    };
+    let _ = writeln!(out, "handed over early: {}", early.escape_ascii());
+    let syn_ack = first(&back, taken.written);
+    let _ = writeln!(
+        out,
+        "the listener sends {} bytes, pending {}",
+        syn_ack.len(),
+        pending(taken.listener)
     );
 
-    let syn_ack = first(&back, taken.written);
     let attempt = Attempt {
         source: port,
         dest: 443,
         iss: 1000,
-        sent,
+        sent: data,
     };
     let answered = answer(
         opened.memory,
@@ -82,29 +87,25 @@ fn exchange(streams: &mut Console, m: Memory, l: Listener, time: u64, port: u16)
         syn_ack,
         Codings::NewOnly,
     );
-    let event = answered.event;
-    let ClientEvent::Answered(n) = event else {
-        return finish(streams, m, l, client_number(event));
-    };
-    print_counts(
-        streams,
-        b"the client takes ",
-        syn_ack.len(),
-        b"acknowledged ",
-        n,
+    let acknowledged = bytes_of(answered.event)?;
+    let _ = writeln!(
+        out,
+        "the client takes {} bytes, acknowledged {acknowledged}",
+        syn_ack.len()
     );
-    finish(streams, answered.memory, taken.listener, 0)
+    Ok(Ends {
+        memory: answered.memory,
+        listener: taken.listener,
+    })
 }
 
-// Here the key and the initial numbers of both ends, 1000 and 7000, are fixed; in use they have to be hard to guess. Neither start is refused, nor are the
-// settings; had one start been, every call on that end would be.
-fn main(rt: HostRuntime) {
-    let mut streams = Streams {
-        out: rt.stdout(),
-        err: rt.stderr(),
-    };
+// Two exchanges. Here the key and the initial numbers of both ends, 1000 and 7000, are fixed; in use they have to be hard to guess. The settings are not
+// refused.
+fn run(out: &mut Stdout) -> Result<(), Refusal> {
     let client = client::calls::start(4);
+    client.check?;
     let server = listener::calls::start(&SERVER, 443, &[7; 16]);
+    server.check?;
     let settings = Settings {
         on: true,
         limit: 8,
@@ -115,10 +116,20 @@ fn main(rt: HostRuntime) {
         share: 8,
     };
     let set = set_settings(server.listener, 0, settings);
-    print_line(&mut streams, b"first opening, ", b"to get a cookie");
-    let asked = exchange(&mut streams, client.memory, set.listener, 1, 40000);
-    if !asked.stopped {
-        print_line(&mut streams, b"second opening, ", b"to send data early");
-        exchange(&mut streams, asked.memory, asked.listener, 2, 40001);
+    let ends = Ends {
+        memory: client.memory,
+        listener: set.listener,
+    };
+    let _ = writeln!(out, "first opening, to get a cookie");
+    let ends = exchange(out, ends, 1, 40000)?;
+    let _ = writeln!(out, "second opening, to send data early");
+    exchange(out, ends, 2, 40001)?;
+    Ok(())
+}
+
+fn main(rt: HostRuntime) {
+    let mut out = rt.stdout();
+    if let Err(why) = run(&mut out) {
+        let _ = writeln!(out, "refused {}", u8::from(why));
     }
 }

@@ -7,12 +7,11 @@ use native.Mathlib.Omega.{arith}
 use lib.ListN.{length, take}
 use lib.Seq.{length-take-le}
 use borrow.Author.Tests.{le-ltb, eqb-true, eq-eqb, not-false}
-use Rattle.segment.specs.Refusal.{refusal}
+use Rattle.segment.specs.Refusal.{refusal, all_clear}
 use Rattle.segment.specs.Header.{fields_of, option_area, payload_of, kind_of}
 use Rattle.segment.specs.Options.{options_of, cookie_bytes, coding_of}
 use Rattle.segment.specs.Checksum.{checksum_right}
 use Rattle.segment.specs.Write.{opening_fields}
-use Rattle.segment.specs.declared.refusal.Check.TheVariants.{Clear}
 use Rattle.segment.specs.declared.header.Header.{Header}
 use Rattle.segment.specs.declared.header.Kind.{Kind}
 use Rattle.segment.specs.declared.header.Kind.TheVariants.{Syn}
@@ -36,7 +35,7 @@ use Rattle.protocol.specs.Refusals.{wire_checks, kind_checks, call_check}
 use Rattle.protocol.specs.declared.state.Listener.{Listener}
 use Rattle.protocol.proofs.Refusals.{checked_segment}
 use Rattle.protocol.proofs.Cookie.{cookie_eight, issued-right, right-now, right-before, carried-found}
-use Rattle.client.specs.Cache.{cookie_length}
+use Rattle.client.specs.Cache.{stored_cookie, cookie_length}
 use Rattle.client.specs.Refusals.{checks}
 use Rattle.client.specs.Step.{sent_with, opening_for, stored_for}
 use Rattle.client.specs.declared.state.Memory.{Memory}
@@ -93,7 +92,7 @@ module _ (m : Memory) (l : Listener) (a : Asked) (e : Ends m l a) where
       let fits = opening-fits fields e.source e.dest e.iss (omega (arith, mss-most a.ends.mss (not-false _ passed.1.1.1.1.1.0))) in
       subst (ReadBack g a.own a.server (opening_fields fields) (stored m a) data') (sym (output-done m (asking a) e.done))
       (opening_read g a.own a.server fields (stored m a) data' a.out_len can fits e.own-bytes e.server-bytes
-      (bytes_take (cookie_length (stored_for m a.server)) (stored_for m a.server).cookie e.stored_bytes) (bytes_take count a.offered e.offered-bytes))
+      (bytes_take (cookie_length (stored_for m a.server)) (stored_cookie (stored_for m a.server)).bytes e.stored_bytes) (bytes_take count a.offered e.offered-bytes))
 
   pub new-coding : (g : Codings) → coding_of (options_of g (opening m a)).fast ≡ New
   new-coding g = ap (λ (o : Options). coding_of o.fast) (read g).options ∙ written_new a.ends.mss (not (is_banned m a)) (stored m a)
@@ -126,7 +125,7 @@ module _ (m : Memory) (l : Listener) (a : Asked) (e : Ends m l a) where
       (eqb-true (length a.own) (size m.family) own-family ∙ sym (eqb-true (length a.server) (size m.family) server-family) ∙ sym n)
 
   pub wire-clear : (h : Arrival) → Listens l h
-      → refusal (wire_checks l.local (is_untimely l.clock h.time) a.own (opening m a) h.out_len) ≡ Clear
+      → refusal (wire_checks l.local (is_untimely l.clock h.time) a.own (opening m a) h.out_len) ≡ all_clear
   wire-clear h g =
       let o = opening_read_by_listener in
       let sum : checksum_right a.own (own_address l.local) (opening m a) ≡ true = rw e.address o.checksum in
@@ -141,7 +140,7 @@ module _ (m : Memory) (l : Listener) (a : Asked) (e : Ends m l a) where
   pub none-sent : stored m a ≡ [] → sent m a ≡ 0
   none-sent q =
       let entry = stored_for m a.server in
-      let whole = length-take-le (cookie_length entry) entry.cookie (omega (arith, cookie-most entry, e.stored-length)) in
+      let whole = length-take-le (cookie_length entry) (stored_cookie entry).bytes (omega (arith, cookie-most entry, e.stored-length)) in
       let z : cookie_length entry ≡ 0 = sym whole ∙ ap length q in
       sent_is ∙ rw (eq-eqb _ _ z, or-true (is_banned m a))
 
@@ -156,5 +155,5 @@ module _ (m : Memory) (l : Listener) (a : Asked) (e : Ends m l a) where
   pub right-cookie : is_banned m a ≡ false → Issued l.keys (block a.own) (stored m a) → right l.keys (block a.own) (carried_by l.settings.codings (opening m a)) ≡ true
   right-cookie free (present q) =
       rw (carried l.keys.present free q) (right-now l.keys (block a.own) _ (issued-right l.keys.present (block a.own)))
-  right-cookie free (previous r q) =
-      rw (carried l.keys.previous free q) (right-before l.keys (block a.own) _ r (issued-right l.keys.previous (block a.own)))
+  right-cookie free (previous w r q) =
+      rw (carried w free q) (right-before l.keys (block a.own) _ r (issued-right w (block a.own)))

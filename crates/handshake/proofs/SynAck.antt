@@ -1,4 +1,5 @@
 -- The listener's SYN-ACK to a new opening, as the client reads it. Assumes nothing.
+use Rattle.segment.specs.Refusal.{all_clear}
 use Prim.Native.Nat.{ℕ, ◌≤◌}
 use mathlib.Core.Path.{◌≡◌, refl, ap, sym, ◌∙◌, subst}
 use mathlib.Core.Bool.{Bool, true, false, cond}
@@ -10,7 +11,6 @@ use Rattle.segment.specs.Header.{fields_of, option_area, is_syn_ack}
 use Rattle.segment.specs.Options.{is_cookie_length, counts_coding, options_of, cookie_bytes}
 use Rattle.segment.specs.Sequence.{next_after, acknowledged}
 use Rattle.segment.specs.Write.{syn_ack_fields}
-use Rattle.segment.specs.declared.refusal.Check.TheVariants.{Clear}
 use Rattle.segment.specs.declared.header.Header.{Header}
 use Rattle.segment.specs.declared.options.Coding.{Coding}
 use Rattle.segment.specs.declared.options.Codings.{Codings}
@@ -34,6 +34,7 @@ use Rattle.protocol.proofs.Cookie.{cookie_eight}
 use Rattle.protocol.proofs.Openings.{slot_for, step-new}
 use Rattle.protocol.proofs.Answered.{read_new}
 use Rattle.client.specs.Refusals.{call_check, count_in}
+use Rattle.client.specs.Cache.{stored_mss}
 use Rattle.client.specs.Step.{cookie_in, stored_for}
 use Rattle.client.specs.declared.outcome.Event.TheVariants.{Answered}
 use Rattle.client.specs.declared.outcome.Outcome as client-outcome
@@ -133,7 +134,7 @@ module _ (m : Memory) (l : Listener) (a : Asked) (e : Ends m l a) (h : Arrival) 
       rw (cookie_if g true f, eight) (cookie_length_back 8 (record { least = omega arith; most = omega arith; even = refl }))
 
   module _ (m' : Memory) (r : Receipt) (g : Later m m' r) where
-    taken : call_check m' (returning m l a h r) ≡ Clear
+    taken : call_check m' (returning m l a h r) ≡ all_clear
     taken =
         let seg' = reply m l a h in
         let shaped = well_shaped seg' _ (read NewOnly).shape in
@@ -167,6 +168,6 @@ module _ (m : Memory) (l : Listener) (a : Asked) (e : Ends m l a) (h : Arrival) 
               ∙ reading.negative_ban m' r.time a.own a.server (attempted m a) (reply m l a h) r.codings s (counted ∙ z)
               (ap length (cookie_if r.codings false f));
           size =
-              ap (λ (o : client-outcome.Outcome). (stored_for o.memory a.server).mss) done
+              ap (λ (o : client-outcome.Outcome). stored_mss (stored_for o.memory a.server)) done
               ∙ reading.mss-stored m' r.time a.own a.server (attempted m a) (reply m l a h) r.codings l.settings.mss (ap (λ (o : Options). o.mss) (read r.codings).options);
         }

@@ -2,16 +2,14 @@
 -- and, after a SYN-ACK that replaced a cookie, in the client's next opening (02, Item 9). It holds whatever codings either end counts (02, Item 4): the client writes the
 -- new one, which each end always counts.
 -- Assumes nothing.
-use Rattle.std.specs.Prelude.{ℕ, ◌^◌, ◌≤◌, ◌<◌, min, ◌≡◌, List, [], ◌∷◌, Bool, true, false, cond, length, take}
+use Rattle.std.specs.Prelude.{ℕ, ◌^◌, ◌≤◌, ◌<◌, min, ◌≡◌, List, [], ◌∷◌, Bool, true, false, cond, length, take, Some}
 use Rattle.lists.specs.Bytes.{Bytes}
 use Rattle.segment.specs.Write.{longest_syn_ack}
-use Rattle.segment.specs.Refusal.{refusal}
+use Rattle.segment.specs.Refusal.{refusal, all_clear}
 use Rattle.segment.specs.Header.{malformed, fields_of, payload_of, kind_of}
 use Rattle.segment.specs.Checksum.{checksum_right}
 use Rattle.segment.specs.Options.{options_of}
-use Rattle.segment.specs.declared.refusal.Check.TheVariants.{Clear}
 use Rattle.segment.specs.declared.header.Kind.TheVariants.{Syn}
-use Rattle.segment.specs.declared.options.Mss.TheVariants.{Given}
 use Rattle.segment.specs.declared.options.Codings.{Codings}
 use Rattle.endpoint.specs.Address.{block}
 use Rattle.endpoint.specs.Checks.{is_untimely}
@@ -27,7 +25,7 @@ use Rattle.protocol.specs.Step as listener
 use Rattle.protocol.specs.declared.state.Keys.{Keys}
 use Rattle.protocol.specs.declared.state.Listener.{Listener}
 use Rattle.protocol.specs.declared.outcome.Event.TheVariants as events
-use Rattle.client.specs.Cache.{cookie_of}
+use Rattle.client.specs.Cache.{stored_cookie, stored_mss, cookie_of}
 use Rattle.client.specs.Bans.{add_ban}
 use Rattle.client.specs.Call.{connect, answer, count_of}
 use Rattle.client.specs.Call as client-calls
@@ -92,7 +90,7 @@ returning m l a h r = answer r.time a.own a.server (attempted m a) (reply m l a 
 
 pub record Ends (m : Memory) (l : Listener) (a : Asked) : Type 0 where
   -- the client's call is done
-  pub done : client-checks.call_check m (asking a) ≡ Clear
+  pub done : client-checks.call_check m (asking a) ≡ all_clear
   -- the listener has the address and the port that the client calls
   pub address : own_address l.local ≡ a.server
   pub port : l.local.port ≡ a.ends.dest
@@ -103,8 +101,8 @@ pub record Ends (m : Memory) (l : Listener) (a : Asked) : Type 0 where
   pub own-bytes : Bytes a.own
   pub server-bytes : Bytes a.server
   pub offered-bytes : Bytes a.offered
-  pub stored-length : length (stored_for m a.server).cookie ≡ 16
-  pub stored_bytes : Bytes (stored_for m a.server).cookie
+  pub stored-length : length (stored_cookie (stored_for m a.server)).bytes ≡ 16
+  pub stored_bytes : Bytes (stored_cookie (stored_for m a.server)).bytes
   pub local_length : length l.local.own ≡ 16
   pub key-bytes : Bytes l.keys.present
   pub mss : l.settings.mss < 65536
@@ -143,13 +141,13 @@ pub record Listens (l : Listener) (h : Arrival) : Type 0 where
 -- the listener's cookie for the address with this block, under its present key, or under the previous one if there is one
 pub data Issued (k : Keys) (b c : List ℕ) : Type 0 where
   present : c ≡ cookie_under k.present b → Issued k b c
-  previous : k.rotated ≡ true → c ≡ cookie_under k.previous b → Issued k b c
+  previous : (w : List ℕ) → k.previous ≡ Some w → c ≡ cookie_under w b → Issued k b c
 
 -- What the client reads
 
 -- the listener's call is done and the client's name is new to it; its initial number is such as the call's type allows
 pub record Taken (m : Memory) (l : Listener) (a : Asked) (h : Arrival) : Type 0 where
-  pub clear : listener-checks.call_check l (arriving m a h) ≡ Clear
+  pub clear : listener-checks.call_check l (arriving m a h) ≡ all_clear
   pub new : known (view_of l (arriving m a h)) ≡ false
   pub iss : h.iss < 2 ^ 32
 
@@ -175,12 +173,12 @@ updated m l a h m' r = (client.step m' (returning m l a h r)).memory
 -- sets no ban; without one it sets one where none of the data that it sent was accepted.
 pub record SynAckRead (m : Memory) (l : Listener) (a : Asked) (h : Arrival) (m' : Memory) (r : Receipt) : Type 0 where
   pub event : (client.step m' (returning m l a h r)).event ≡ Answered (accepted m l a h)
-  pub mss : (options_of r.codings (reply m l a h)).mss ≡ Given l.settings.mss
+  pub mss : (options_of r.codings (reply m l a h)).mss ≡ Some l.settings.mss
   pub cookie : cookie_in r.codings (reply m l a h) ≡ cond (renewed m l a h) (current l a) []
   pub kept : renewed m l a h ≡ true → stored (updated m l a h m' r) a ≡ current l a
   pub no_ban : renewed m l a h ≡ true → (updated m l a h m' r).bans ≡ m'.bans
   pub ban : renewed m l a h ≡ false → 0 < sent m a → accepted m l a h ≡ 0 → (updated m l a h m' r).bans ≡ add_ban r.time (block a.server) a.ends.dest m'.bans
-  pub size : (stored_for (updated m l a h m' r) a.server).mss ≡ Given l.settings.mss
+  pub size : stored_mss (stored_for (updated m l a h m' r) a.server) ≡ Some l.settings.mss
 
 -- Three kinds of opening: a request gets a cookie, with a right cookie the data is handed over at once, and one that is right under neither key is
 -- replaced.

@@ -7,7 +7,6 @@ use protocol::outcome::{Event, Outcome};
 use protocol::state::Listener;
 use segment::header::payload;
 use segment::options::Remarks;
-use segment::refusal::number;
 
 // What a call comes to. Every outcome is made here.
 pub fn new_outcome(listener: Listener, event: Event, written: usize, remarks: Remarks) -> Outcome
@@ -26,13 +25,8 @@ pub fn event_number(e: Event) -> u8
     ensures { result ≡ number_of_event e }
 {
     match e {
-        Event::Refused(why) => number(why),
-        Event::FastOpened(_) => 0,
-        Event::Regular => 0,
-        Event::Retransmission => 0,
-        Event::Completed => 0,
-        Event::WasReset => 0,
-        Event::Done => 0,
+        Event::Refused(why) => u8::from(why),
+        _ => 0,
     }
 }
 
@@ -41,13 +35,8 @@ pub fn accepted_count(e: Event) -> u32
     ensures { result ≡ accepted_of e }
 {
     match e {
-        Event::Refused(_) => 0,
         Event::FastOpened(n) => n,
-        Event::Regular => 0,
-        Event::Retransmission => 0,
-        Event::Completed => 0,
-        Event::WasReset => 0,
-        Event::Done => 0,
+        _ => 0,
     }
 }
 

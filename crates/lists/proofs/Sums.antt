@@ -1,7 +1,7 @@
 -- Elements of a list, sums of a weight over it, the first place of a test, amendments, and rules that hold of every element. Assumes nothing.
 use Prim.Native.Nat.{ℕ, zero, suc, ◌+◌, ◌≤◌, ◌<◌}
 use mathlib.Core.Path.{◌≡◌, refl, sym, ap, ap₂, ◌∙◌}
-use mathlib.Core.Bool.{Bool, true, false, cond}
+use mathlib.Core.Bool.{Bool, true, false}
 use mathlib.Core.List.{List, [], ◌∷◌, ◌++◌, append_assoc}
 use native.Mathlib.Omega.{arith}
 use native.Mathlib.Nat.{le_of_suc-le-suc, not-suc-le-zero}
@@ -57,11 +57,7 @@ module _ {A : Type 0} where
   -- two weights that agree where a test fails, and no element passes it
   sum_off : (p : A → Bool) (u v : A → ℕ) → ((x : A) → p x ≡ false → u x ≡ v x) → (xs : List A) → tally p xs ≡ 0 → sum u xs ≡ sum v xs
   sum_off p u v h [] z = refl
-  sum_off p u v h (x ∷ xs) z = go (p x) refl (λ k. sum_off p u v h xs k)
-    where
-      go : (b : Bool) → p x ≡ b → (tally p xs ≡ 0 → sum u xs ≡ sum v xs) → sum u (x ∷ xs) ≡ sum v (x ∷ xs)
-      go true e k = absurd (omega (arith, z, ap bit e))
-      go false e k = omega (arith, h x e, k (omega (arith, z, ap bit e)))
+  sum_off p u v h (x ∷ xs) z = grind (arith, h x, sum_off p u v h xs)
 
   -- an element that passes is counted
   pub some_passes : (p : A → Bool) (xs : List A) (i : ℕ) (d : A) → i < length xs → p (get_or xs i d) ≡ true → 0 < tally p xs
@@ -74,33 +70,18 @@ module _ {A : Type 0} where
       → i < length xs → p (get_or xs i d) ≡ true → sum u xs + v (get_or xs i d) ≡ sum v xs + u (get_or xs i d)
   sum-only p u v h [] i d o l e = absurd (not-suc-le-zero l)
   sum-only p u v h (x ∷ xs) zero d o l e = omega (arith, sum_off p u v h xs (omega (arith, o, ap bit e)))
-  sum-only p u v h (x ∷ xs) (suc i) d o l e = go (p x) refl (λ k. sum-only p u v h xs i d k (le_of_suc-le-suc l) e)
-    where
-      go : (b : Bool) → p x ≡ b → (tally p xs ≤ 1 → sum u xs + v (get_or xs i d) ≡ sum v xs + u (get_or xs i d))
-          → sum u (x ∷ xs) + v (get_or xs i d) ≡ sum v (x ∷ xs) + u (get_or xs i d)
-      go true q k = absurd (omega (arith, o, ap bit q, some_passes p xs i d (le_of_suc-le-suc l) e))
-      go false q k = omega (arith, h x q, k (omega (arith, o, ap bit q)))
+  sum-only p u v h (x ∷ xs) (suc i) d o l e =
+      let k : i < length xs = le_of_suc-le-suc l in grind (arith, h x, some_passes p xs i d k e, sum-only p u v h xs i d)
 
   -- The first place of a test
 
   pub first_passes : (p : A → Bool) (xs : List A) (d : A) → first_index p xs < length xs → p (get_or xs (first_index p xs) d) ≡ true
   first_passes p [] d h = absurd (not-suc-le-zero h)
-  first_passes p (x ∷ xs) d h = go (p x) refl h (λ k. first_passes p xs d k)
-    where
-      go : (b : Bool) → p x ≡ b → cond b 0 (suc (first_index p xs)) < suc (length xs)
-          → (first_index p xs < length xs → p (get_or xs (first_index p xs) d) ≡ true)
-          → p (get_or (x ∷ xs) (cond b 0 (suc (first_index p xs))) d) ≡ true
-      go true e k r = e
-      go false e k r = r (le_of_suc-le-suc k)
+  first_passes p (x ∷ xs) d h = grind (arith, first_passes p xs d)
 
   pub none_passes : (p : A → Bool) (xs : List A) → length xs ≤ first_index p xs → tally p xs ≡ 0
   none_passes p [] h = refl
-  none_passes p (x ∷ xs) h = go (p x) refl h (λ k. none_passes p xs k)
-    where
-      go : (b : Bool) → p x ≡ b → suc (length xs) ≤ cond b 0 (suc (first_index p xs))
-          → (length xs ≤ first_index p xs → tally p xs ≡ 0) → tally p (x ∷ xs) ≡ 0
-      go true e k r = absurd (not-suc-le-zero k)
-      go false e k r = omega (arith, ap bit e, r (le_of_suc-le-suc k))
+  none_passes p (x ∷ xs) h = grind (arith, none_passes p xs)
 
   -- Amendments
 

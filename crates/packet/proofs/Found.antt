@@ -1,43 +1,17 @@
--- Whether a packet is to an address, as the code decides it, and how many bytes are written. Assumes nothing.
-use Prim.Native.Nat.{ℕ, ◌+◌, ◌≤◌, ◌<◌}
-use mathlib.Core.Path.{◌≡◌, refl, sym, ap, ◌∙◌}
-use mathlib.Core.Bool.{Bool, true, false, cond}
-use mathlib.Core.List.{List}
-use native.Mathlib.Omega.{arith}
-use borrow.Author.Tests.{lt-ltb, le-ltb}
-use lib.ListN.{length, take, drop, length-take, length-append}
-use Rattle.lists.specs.Bytes.{same_bytes}
+-- A packet's destination as a block, how many bytes are written, and an address byte by byte. Assumes nothing.
+use Rattle.std.proofs.Common.{◌≡◌, ℕ, ◌+◌, ◌≤◌, List, ◌++◌, length, get_or, take, drop, refl, sym, ap, ap₂, ◌∙◌, arith, length-take, length-drop, length-append}
+use lib.Seq.{get_or-drop, take-add, take_all}
+use Rattle.lists.proofs.Elements.{eight}
 use Rattle.endpoint.specs.Address.{block}
 use Rattle.endpoint.specs.declared.address.Family.{Family}
 use Rattle.endpoint.specs.declared.address.Family.TheVariants.{V4, V6}
-use Rattle.endpoint.proofs.Blocks.{kept}
-use Rattle.segment.specs.declared.refusal.Refusal.TheVariants.{Output, BadCapture}
-use Rattle.segment.specs.declared.refusal.Check.TheVariants.{Clear, Refused}
-use Rattle.packet.specs.Ip.{least_header, header_length, is_whole, dest_of, is_to, carried_to}
-use Rattle.packet.specs.Write.{header_v4, checked_v4, header_v6, packet_bytes, packet_check}
-use Rattle.packet.specs.declared.read.Carried.TheVariants.{Tcp, Other}
+use Rattle.packet.specs.Ip.{least_header, dest_of}
+use Rattle.packet.specs.Write.{sixteen_of, header_v4, checked_v4, header_v6, packet_bytes}
 
 -- an address has at most 16 bytes
-dest-most : (f : Family) (p : List ℕ) → length (dest_of f p) ≤ 16
-dest-most V4 p = omega (arith, length-take 4 (drop 16 p))
-dest-most V6 p = omega (arith, length-take 16 (drop 24 p))
-
-module _ (f : Family) (own p : List ℕ) where
-  pub not_whole : is_whole f p ≡ false → carried_to f own p ≡ Other
-  unfolding carried_to is_to
-  not_whole e = rw e
-
-  to_whole : is_whole f p ≡ true → (t : Bool) → same_bytes (block (dest_of f p)) own ≡ t → carried_to f own p ≡ cond t (Tcp (header_length f p)) Other
-  unfolding carried_to is_to
-  to_whole w t e = rw (w, e)
-
-  -- the destination's block, as it was made
-  module _ (d b : List ℕ) (part : d ≡ dest_of f p) (made : b ≡ block (take 16 d)) where
-    block_made : b ≡ block (dest_of f p)
-    block_made = kept (dest_of f p) (dest-most f p) (made ∙ ap (λ (x : List ℕ). block (take 16 x)) part)
-
-    pub decided : is_whole f p ≡ true → (t : Bool) → same_bytes b own ≡ t → carried_to f own p ≡ cond t (Tcp (header_length f p)) Other
-    decided w t e = to_whole w t (ap (λ (x : List ℕ). same_bytes x own) (sym block_made) ∙ e)
+pub dest_block : (f : Family) (p : List ℕ) → block (take 16 (dest_of f p)) ≡ block (dest_of f p)
+dest_block V4 p = ap block (take_all 16 (take 4 (drop 16 p)) (omega (arith, length-take 4 (drop 16 p))))
+dest_block V6 p = ap block (take_all 16 (take 16 (drop 24 p)) (omega (arith, length-take 16 (drop 24 p))))
 
 -- how many bytes the headers have
 pub length_v4 : (own dst : List ℕ) (n : ℕ) → length (checked_v4 own dst n) ≡ 20
@@ -48,21 +22,20 @@ pub length_v6 : (own dst : List ℕ) (n : ℕ) → length (header_v6 own dst n) 
 unfolding header_v6
 length_v6 own dst n = refl
 
-pub packet-length : (f : Family) (own dst tcp : List ℕ) → length (packet_bytes f own dst tcp) ≡ least_header f + length tcp
+pub packet_length : (f : Family) (own dst tcp : List ℕ) → length (packet_bytes f own dst tcp) ≡ least_header f + length tcp
 unfolding packet_bytes
-packet-length V4 own dst tcp = length-append (checked_v4 own dst (length tcp)) tcp ∙ rw (length_v4 own dst (length tcp))
-packet-length V6 own dst tcp = length-append (header_v6 own dst (length tcp)) tcp ∙ rw (length_v6 own dst (length tcp))
+packet_length V4 own dst tcp = length-append (checked_v4 own dst (length tcp)) tcp ∙ rw (length_v4 own dst (length tcp))
+packet_length V6 own dst tcp = length-append (header_v6 own dst (length tcp)) tcp ∙ rw (length_v6 own dst (length tcp))
 
--- The checks of a packet that is written, one after the other
-module _ (f : Family) (n room : ℕ) where
-  pub packet-over : 4096 < least_header f + n → packet_check f n room ≡ Refused BadCapture
-  packet-over h = rw (lt-ltb 4096 (least_header f + n) h)
-
-  pub packet-none : least_header f + n ≤ 4096 → room < least_header f + n → packet_check f n room ≡ Refused Output
-  packet-none h k = rw (le-ltb 4096 (least_header f + n) h, lt-ltb room (least_header f + n) k)
-
-  pub packet-clear : least_header f + n ≤ 4096 → least_header f + n ≤ room → packet_check f n room ≡ Clear
-  packet-clear h k = rw (le-ltb 4096 (least_header f + n) h, le-ltb room (least_header f + n) k)
+-- an address of 16 bytes, as it is written
+pub byte_by_byte : (a : List ℕ) → length a ≡ 16 → sixteen_of a ≡ a
+byte_by_byte a h =
+    rw (later 0, later 1, later 2, later 3, later 4, later 5, later 6, later 7)
+    (ap₂ (λ (x y : List ℕ). x ++ y) (eight a (omega arith)) (eight (drop 8 a) (omega (arith, length-drop 8 a)))
+    ∙ sym (take-add 8 8 a) ∙ take_all 16 a (omega arith))
+  where
+    later : (i : ℕ) → get_or a (8 + i) 0 ≡ get_or (drop 8 a) i 0
+    later i = sym (get_or-drop 8 a i 0)
 
 -- a header has 20 or 40 bytes
 pub header_bounds : (f : Family) → (20 ≤ least_header f) × (least_header f ≤ 40)

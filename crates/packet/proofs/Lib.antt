@@ -1,3 +1,3 @@
--- The laws: Found (packets that are read and written, as the code decides them). The theorem: PacketBack.
+-- The laws: Found (a destination as a block; how many bytes are written). The theorem: PacketBack.
 pub mod Found
 pub mod PacketBack

@@ -1,15 +1,14 @@
 -- A packet that is written is read as one to its destination, with the same segment, and an IPv4 header's sum is 65,535. Assumes nothing.
 use Prim.Native.Nat.{ℕ, ◌+◌, ◌≤◌}
-use mathlib.Core.Path.{◌≡◌, refl, sym, ap, ap₂, ◌∙◌}
+use mathlib.Core.Path.{◌≡◌, refl, sym, ap, ◌∙◌}
 use mathlib.Core.Bool.{true}
 use mathlib.Core.List.{List, [], ◌∷◌, ◌++◌}
 use native.Mathlib.Omega.{arith}
 use borrow.Author.Tests.{le-leb, eq-eqb}
-use lib.Seq.{get_or-drop, take-add, take_all, take_at}
-use lib.ListN.{length, drop, get_or, length-drop, replicate}
+use lib.Seq.{take_at}
+use lib.ListN.{length, replicate}
 use Rattle.lists.specs.Bytes.{Bytes}
 use Rattle.lists.proofs.SameBytes.{same_bytes_refl}
-use Rattle.lists.proofs.Elements.{eight}
 use Rattle.lists.proofs.ByteLists.{bytes-append, each_byte}
 use Rattle.segment.specs.Bytes.{word_at}
 use Rattle.segment.specs.Checksum.{ones_sum}
@@ -21,7 +20,7 @@ use Rattle.endpoint.specs.declared.address.Family.{Family}
 use Rattle.endpoint.specs.declared.address.Family.TheVariants.{V4, V6}
 use Rattle.packet.specs.Ip.{least_header, header_length, is_whole_v4, is_whole_v6, is_to, carried_to}
 use Rattle.packet.specs.Write.{four_of, sixteen_of, before_check, header_v4, checked_v4, header_v6, packet_bytes, PacketBack, HeaderSum}
-use Rattle.packet.proofs.Found.{length_v4, packet-length}
+use Rattle.packet.proofs.Found.{length_v4, packet_length, byte_by_byte}
 
 -- The header's sum
 
@@ -54,16 +53,7 @@ first-four a h = rw (block-four a h) (go a h)
     go (w ∷ x ∷ y ∷ z ∷ v ∷ a) h = absurd (omega arith)
 
 all_sixteen : (a : List ℕ) → length a ≡ 16 → sixteen_of (block a) ≡ a
-all_sixteen a h = rw (block_sixteen a h) halves
-  where
-    later : (i : ℕ) → get_or a (8 + i) 0 ≡ get_or (drop 8 a) i 0
-    later i = sym (get_or-drop 8 a i 0)
-
-    halves : sixteen_of a ≡ a
-    halves =
-        rw (later 0, later 1, later 2, later 3, later 4, later 5, later 6, later 7)
-        (ap₂ (λ (x y : List ℕ). x ++ y) (eight a (omega arith)) (eight (drop 8 a) (omega (arith, length-drop 8 a)))
-        ∙ sym (take-add 8 8 a) ∙ take_all 16 a (omega arith))
+all_sixteen a h = rw (block_sixteen a h) (byte_by_byte a h)
 
 -- The packet
 
@@ -71,7 +61,7 @@ whole_v4 : (own dst tcp : List ℕ) → 20 + length tcp ≤ 4096 → is_whole_v4
 unfolding is_whole_v4 packet_bytes checked_v4 header_v4
 whole_v4 own dst tcp h =
     let p = packet_bytes V4 own dst tcp in
-    let l = packet-length V4 own dst tcp in
+    let l = packet_length V4 own dst tcp in
     let w : word_at p 2 ≡ length p = back16 (20 + length tcp) (omega arith) ∙ sym l in
     rw (le-leb 20 (length p) (omega arith), eq-eqb (word_at p 2) (length p) w)
 
@@ -79,7 +69,7 @@ whole_v6 : (own dst tcp : List ℕ) → 40 + length tcp ≤ 4096 → is_whole_v6
 unfolding is_whole_v6 packet_bytes header_v6
 whole_v6 own dst tcp h =
     let p = packet_bytes V6 own dst tcp in
-    let l = packet-length V6 own dst tcp in
+    let l = packet_length V6 own dst tcp in
     let w : word_at p 4 + 40 ≡ length p = omega (arith, back16 (length tcp) (omega arith)) in
     rw (le-leb 40 (length p) (omega arith), eq-eqb (word_at p 4 + 40) (length p) w)
 

@@ -1,14 +1,12 @@
 -- Document 02, Item 3, RFC 791, 3.1, and RFC 8200, 3: whole packets with TCP, their addresses and their segment.
 -- Assumes nothing.
-use Rattle.std.specs.Prelude.{ℕ, ◌+◌, ◌*◌, ◌/◌, ◌%◌, List, [], Bool, cond, ◌&&◌, leb, eqb, length, take, drop}
+use Rattle.std.specs.Prelude.{ℕ, ◌+◌, ◌*◌, ◌/◌, ◌%◌, List, [], Bool, cond, ◌&&◌, leb, eqb, length, take, drop, Option, None, Some}
 use Rattle.lists.specs.Bytes.{same_bytes}
 use Rattle.segment.specs.Bytes.{byte_at, word_at}
 use Rattle.segment.specs.Checksum.{protocol}
 use Rattle.endpoint.specs.Address.{size, block}
 use Rattle.endpoint.specs.declared.address.Family.{Family}
 use Rattle.endpoint.specs.declared.address.Family.TheVariants.{V4, V6}
-use Rattle.packet.specs.declared.read.Carried.{Carried}
-use Rattle.packet.specs.declared.read.Carried.TheVariants.{Tcp, Other}
 
 -- the least length of a header; in IPv6, without extension headers, the only one
 abbrev pub least_header : Family → ℕ
@@ -40,24 +38,26 @@ abbrev pub is_whole : Family → List ℕ → Bool
 is_whole V4 p = is_whole_v4 p
 is_whole V6 p = is_whole_v6 p
 
--- the source and the destination address
+-- the source and, behind it, the destination address
+abbrev pub source_at : Family → ℕ
+source_at V4 = 12
+source_at V6 = 8
+
 abbrev pub source_of : Family → List ℕ → List ℕ
-source_of V4 p = take (size V4) (drop 12 p)
-source_of V6 p = take (size V6) (drop 8 p)
+source_of f p = take (size f) (drop (source_at f) p)
 
 abbrev pub dest_of : Family → List ℕ → List ℕ
-dest_of V4 p = take (size V4) (drop 16 p)
-dest_of V6 p = take (size V6) (drop 24 p)
+dest_of f p = take (size f) (drop (source_at f + size f) p)
 
 -- a whole packet with TCP to the address of a family with this block
 unfoldable pub is_to : Family → List ℕ → List ℕ → Bool
 is_to f own p = is_whole f p && same_bytes (block (dest_of f p)) own
 
 -- where its segment begins; all other packets are skipped
-unfoldable pub carried_to : Family → List ℕ → List ℕ → Carried
-carried_to f own p = cond (is_to f own p) (Tcp (header_length f p)) Other
+unfoldable pub carried_to : Family → List ℕ → List ℕ → Option ℕ
+carried_to f own p = cond (is_to f own p) (Some (header_length f p)) None
 
 -- the segment
-abbrev pub tcp_of : List ℕ → Carried → List ℕ
-tcp_of p (Tcp start) = drop start p
-tcp_of p Other = []
+abbrev pub tcp_of : List ℕ → Option ℕ → List ℕ
+tcp_of p (Some start) = drop start p
+tcp_of p None = []

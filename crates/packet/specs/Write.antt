@@ -1,17 +1,16 @@
 -- Document 02, Item 3, RFC 791, 3.1, and RFC 8200, 3: packets that are written around a TCP segment.
 -- Assumes nothing.
-use Rattle.std.specs.Prelude.{ℕ, ◌+◌, ◌≡◌, List, [], ◌∷◌, ◌++◌, length, take, ltb}
+use Rattle.std.specs.Prelude.{ℕ, ◌+◌, ◌≡◌, List, [], ◌∷◌, ◌++◌, length, take, ltb, Some}
 use Rattle.segment.specs.Bytes.{be16, byte_at}
 use Rattle.segment.specs.Checksum.{protocol, ones_sum, complement}
 use Rattle.segment.specs.Refusal.{refusal}
 use Rattle.segment.specs.declared.refusal.Refusal.TheVariants.{Output, BadCapture}
-use Rattle.segment.specs.declared.refusal.Check.{Check}
+use Rattle.segment.specs.Refusal.{Check}
 use Rattle.endpoint.specs.Address.{block}
 use Rattle.endpoint.specs.declared.address.Family.{Family}
 use Rattle.endpoint.specs.declared.address.Family.TheVariants.{V4, V6}
 use Rattle.pcap.specs.Record.{most_captured}
 use Rattle.packet.specs.Ip.{least_header, source_of, carried_to, tcp_of}
-use Rattle.packet.specs.declared.read.Carried.TheVariants.{Tcp}
 
 -- the address at the start of a block: byte by byte, as it is written
 abbrev pub four_of : List ℕ → List ℕ
@@ -53,9 +52,9 @@ packet_check f n room = refusal ((BadCapture, ltb most_captured (least_header f 
 
 -- The packet between two addresses of a family is read as one to its destination, with its source and its segment
 pub record PacketBack (f : Family) (own dst tcp : List ℕ) : Type 0 where
-  pub carried : carried_to f (block dst) (packet_bytes f (block own) (block dst) tcp) ≡ Tcp (least_header f)
+  pub carried : carried_to f (block dst) (packet_bytes f (block own) (block dst) tcp) ≡ Some (least_header f)
   pub source : source_of f (packet_bytes f (block own) (block dst) tcp) ≡ own
-  pub segment : tcp_of (packet_bytes f (block own) (block dst) tcp) (Tcp (least_header f)) ≡ tcp
+  pub segment : tcp_of (packet_bytes f (block own) (block dst) tcp) (Some (least_header f)) ≡ tcp
 
 -- and the sum over its header, in IPv4, is 65,535
 abbrev pub HeaderSum : List ℕ → List ℕ → List ℕ → Type 0

@@ -1,8 +1,8 @@
 // Packets read: whether one is whole, carries TCP and is to an address, and its parts. All else is skipped, and no error.
 ghost use Rattle.std.specs.Prelude.{◌≡◌};
-ghost use Rattle.packet.specs.Ip.{header_length, is_whole_v4, is_whole_v6, is_whole, dest_of, carried_to, source_of, tcp_of};
+ghost use Rattle.packet.specs.Ip.{header_length, is_whole_v4, is_whole_v6, is_whole, source_at, source_of, dest_of, carried_to, tcp_of};
 
-use endpoint::address::{Family, block_of, same_block};
+use endpoint::address::{Family, block_of, same_block, size_of};
 use segment::header::part;
 use segment::number::word16;
 
@@ -14,13 +14,6 @@ pub const HEADER_V4: usize = 20;
 
 pub const HEADER_V6: usize = 40;
 
-// What a packet carries: a TCP segment, from this byte on, or something that is skipped.
-#[derive(Clone, Copy, Drop)]
-pub enum Carried {
-    Tcp(usize),
-    Other,
-}
-
 // Whether a packet is a whole IPv4 one with TCP: no fragment, its header inside it, its total length its own. The header's checksum is not looked at.
 #[tactic(auto, unfolding(crate::specs::Ip::is_whole_v4))]
 fn is_whole_v4(p: &[u8]) -> bool
@@ -30,27 +23,15 @@ fn is_whole_v4(p: &[u8]) -> bool
     if n < HEADER_V4 {
         return false;
     }
-    if p[0] / 16 != 4 {
-        return false;
-    }
     let header = 4 * ((p[0] % 16) as usize);
-    if header < HEADER_V4 {
-        return false;
-    }
-    if n < header {
-        return false;
-    }
-    if word16(p[2], p[3]) as usize != n {
-        return false;
-    }
-    // more fragments, and the offset's high bits
-    if p[6] % 64 != 0 {
-        return false;
-    }
-    if p[7] != 0 {
-        return false;
-    }
-    p[9] == TCP
+    // of byte 6 the bit for more fragments, and the offset's high bits
+    p[0] / 16 == 4
+        && HEADER_V4 <= header
+        && header <= n
+        && word16(p[2], p[3]) as usize == n
+        && p[6] % 64 == 0
+        && p[7] == 0
+        && p[9] == TCP
 }
 
 // Whether a packet is a whole IPv6 one with TCP and no extension header.
@@ -59,16 +40,7 @@ fn is_whole_v6(p: &[u8]) -> bool
     ensures { result ≡ is_whole_v6 p.now }
 {
     let n = p.len();
-    if n < HEADER_V6 {
-        return false;
-    }
-    if p[0] / 16 != 6 {
-        return false;
-    }
-    if word16(p[4], p[5]) as usize + HEADER_V6 != n {
-        return false;
-    }
-    p[6] == TCP
+    HEADER_V6 <= n && p[0] / 16 == 6 && word16(p[4], p[5]) as usize + HEADER_V6 == n && p[6] == TCP
 }
 
 fn is_whole(f: Family, p: &[u8]) -> bool
@@ -87,7 +59,7 @@ fn header_length(f: Family, p: &[u8]) -> usize
 {
     match f {
         Family::V4 => {
-            if p.len() == 0 {
+            if p.is_empty() {
                 return 0;
             }
             4 * ((p[0] % 16) as usize)
@@ -96,46 +68,44 @@ fn header_length(f: Family, p: &[u8]) -> usize
     }
 }
 
-// The destination address.
-fn dest_part(f: Family, p: &[u8]) -> &[u8]
-    ensures { result.now ≡ dest_of f p.now }
+// Where the source address begins; the destination address is behind it.
+fn source_at(f: Family) -> usize
+    ensures { result ≡ source_at f }
 {
     match f {
-        Family::V4 => part(p, 16, 4),
-        Family::V6 => part(p, 24, 16),
+        Family::V4 => 12,
+        Family::V6 => 8,
     }
-}
-
-// Finds the TCP segment of a whole packet to the address whose block this is.
-#[tactic(auto, using(crate::proofs::Found::not_whole, crate::proofs::Found::decided))]
-pub fn find_tcp(f: Family, own: [u8; 16], p: &[u8]) -> Carried
-    ensures { result ≡ carried_to f own p.now }
-{
-    if !is_whole(f, p) {
-        return Carried::Other;
-    }
-    if !same_block(block_of(dest_part(f, p)), own) {
-        return Carried::Other;
-    }
-    Carried::Tcp(header_length(f, p))
 }
 
 // The source address, as a part of the packet.
 pub fn source_part(f: Family, p: &[u8]) -> &[u8]
     ensures { result.now ≡ source_of f p.now }
 {
-    match f {
-        Family::V4 => part(p, 12, 4),
-        Family::V6 => part(p, 8, 16),
-    }
+    part(p, source_at(f), size_of(f))
+}
+
+// The destination address.
+fn dest_part(f: Family, p: &[u8]) -> &[u8]
+    ensures { result.now ≡ dest_of f p.now }
+{
+    part(p, source_at(f) + size_of(f), size_of(f))
+}
+
+// Where the TCP segment begins in a whole packet to the address whose block this is; any other packet is skipped.
+#[tactic(auto, using(crate::proofs::Found::dest_block), unfolding(crate::specs::Ip::carried_to, crate::specs::Ip::is_to))]
+pub fn find_tcp(f: Family, own: [u8; 16], p: &[u8]) -> Option<usize>
+    ensures { result ≡ carried_to f own p.now }
+{
+    (is_whole(f, p) && same_block(block_of(dest_part(f, p)), own)).then_some(header_length(f, p))
 }
 
 // The TCP segment that was found, as a part of the packet: empty where none was.
-pub fn tcp_part(p: &[u8], carried: Carried) -> &[u8]
+pub fn tcp_part(p: &[u8], carried: Option<usize>) -> &[u8]
     ensures { result.now ≡ tcp_of p.now carried }
 {
     match carried {
-        Carried::Other => &p[..0],
-        Carried::Tcp(start) => part(p, start, p.len()),
+        None => &p[..0],
+        Some(start) => part(p, start, p.len()),
     }
 }

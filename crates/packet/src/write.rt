@@ -8,11 +8,12 @@ ghost use Rattle.packet.specs.Write.{header_v4, header_v6, checked_v4, packet_ch
 
 use crate::read::{HEADER_V4, HEADER_V6, TCP};
 use endpoint::address::Family;
-use lists::copy::copy;
 use pcap::record::MOST_CAPTURED;
-use pcap::write::{Written, refused};
 use segment::checksum::add_bytes;
-use segment::refusal::{Check, Refusal};
+use segment::refusal::Refusal;
+
+// Time to live, or hop limit.
+const HOPS: u8 = 64;
 
 fn least_header(f: Family) -> usize
     ensures { result ≡ least_header f }
@@ -29,29 +30,16 @@ fn header_v4(own: [u8; 16], dst: [u8; 16], n: usize, check: u16) -> [u8; 20]
     requires { n ≤ 4096 }
     ensures { result ≡ header_v4 own dst n check }
 {
-    let total = HEADER_V4 + n;
-    [
-        0x45,
-        0,
-        (total / 256 % 256) as u8,
-        (total % 256) as u8,
-        0,
-        0,
-        0x40,
-        0,
-        64,
-        TCP,
-        (check / 256 % 256) as u8,
-        (check % 256) as u8,
-        own[0],
-        own[1],
-        own[2],
-        own[3],
-        dst[0],
-        dst[1],
-        dst[2],
-        dst[3],
-    ]
+    let mut header = [0u8; HEADER_V4];
+    header[0] = 0x45;
+    header[2..4].copy_from_slice(&((HEADER_V4 + n) as u16).to_be_bytes());
+    header[6] = 0x40;
+    header[8] = HOPS;
+    header[9] = TCP;
+    header[10..12].copy_from_slice(&check.to_be_bytes());
+    header[12..16].copy_from_slice(&own[..4]);
+    header[16..].copy_from_slice(&dst[..4]);
+    header
 }
 
 // With the checksum that makes its sum 65,535.
@@ -71,58 +59,25 @@ fn header_v6(own: [u8; 16], dst: [u8; 16], n: usize) -> [u8; 40]
     requires { n ≤ 4096 }
     ensures { result ≡ header_v6 own dst n }
 {
-    [
-        0x60,
-        0,
-        0,
-        0,
-        (n / 256 % 256) as u8,
-        (n % 256) as u8,
-        TCP,
-        64,
-        own[0],
-        own[1],
-        own[2],
-        own[3],
-        own[4],
-        own[5],
-        own[6],
-        own[7],
-        own[8],
-        own[9],
-        own[10],
-        own[11],
-        own[12],
-        own[13],
-        own[14],
-        own[15],
-        dst[0],
-        dst[1],
-        dst[2],
-        dst[3],
-        dst[4],
-        dst[5],
-        dst[6],
-        dst[7],
-        dst[8],
-        dst[9],
-        dst[10],
-        dst[11],
-        dst[12],
-        dst[13],
-        dst[14],
-        dst[15],
-    ]
+    let mut header = [0u8; HEADER_V6];
+    header[0] = 0x60;
+    header[4..6].copy_from_slice(&(n as u16).to_be_bytes());
+    header[6] = TCP;
+    header[7] = HOPS;
+    header[8..24].copy_from_slice(&own);
+    header[24..].copy_from_slice(&dst);
+    header
 }
 
 // Puts a header, and the segment behind it.
+#[tactic(auto, using(pcap::proofs::Written::put_whole))]
 fn put_behind(out: &mut [u8], header: &[u8], tcp: &[u8])
     requires { (length header.now ≤ 40) × (length header.now + length tcp.now ≤ length out.old) }
     ensures { out.new ≡ overwrite (header.now ++ tcp.now) out.old }
 {
     let n = header.len();
-    copy(header, out);
-    copy(tcp, &mut out[n..]);
+    out[..n].copy_from_slice(header);
+    out[n..n + tcp.len()].copy_from_slice(tcp);
 }
 
 // Puts the packet of a segment, between the addresses of a family that two blocks have.
@@ -144,22 +99,25 @@ fn put_packet(out: &mut [u8], f: Family, own: [u8; 16], dst: [u8; 16], tcp: &[u8
 }
 
 // Writes the packet that carries a segment from our address to another: 15 where it has more than the 4,096 bytes of a record, then 11 where there is no room.
-#[tactic(auto, using(crate::proofs::Found::header_bounds))]
-pub fn write_packet(out: &mut [u8], f: Family, own: [u8; 16], dst: [u8; 16], tcp: &[u8]) -> Written
+#[tactic(auto, using(crate::proofs::Found::header_bounds, crate::proofs::Found::packet_length))]
+pub fn write_packet(
+    out: &mut [u8],
+    f: Family,
+    own: [u8; 16],
+    dst: [u8; 16],
+    tcp: &[u8],
+) -> Result<usize, Refusal>
     ensures value { result ≡ writing (packet_check f (length tcp.now) (length out.old)) (packet_bytes f own dst tcp.now) }
     ensures out_after { out.new ≡ overwrite (put_by (packet_check f (length tcp.now) (length out.old)) (packet_bytes f own dst tcp.now)) out.old }
 {
     let header = least_header(f);
     let n = tcp.len();
     if MOST_CAPTURED - header < n {
-        return refused(Refusal::BadCapture);
+        return Err(Refusal::BadCapture);
     }
     if out.len() < header + n {
-        return refused(Refusal::Output);
+        return Err(Refusal::Output);
     }
     put_packet(out, f, own, dst, tcp);
-    Written {
-        check: Check::Clear,
-        len: header + n,
-    }
+    Ok(header + n)
 }

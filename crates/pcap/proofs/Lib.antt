@@ -1,4 +1,4 @@
--- The laws: Next (one step of the reader), Steps (the steps as the code decides them), Written (what is written), Refills (a window with the next piece).
+-- The laws: Next (one step of the reader), Steps (room in the counts), Written (what is written), Refills (a window with the next piece).
 -- The theorems: Windows (a capture read in pieces), ReadBack (what is written reads back).
 pub mod Next
 pub mod Steps

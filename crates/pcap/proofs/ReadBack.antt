@@ -1,4 +1,6 @@
 -- Records that are written read back, in either byte order. Assumes nothing.
+use Rattle.std.specs.Prelude.{Option, None, Some, Ok, Err}
+use Rattle.segment.specs.Refusal.{all_clear}
 use Prim.Native.Nat.{ℕ, zero, suc, ◌+◌, ◌-◌}
 use mathlib.Core.Path.{◌≡◌, refl, sym, ap, ◌∙◌}
 use mathlib.Core.List.{List, [], ◌∷◌, ◌++◌, append_assoc, flat_map}
@@ -6,21 +8,15 @@ use native.Mathlib.Omega.{arith}
 use lib.Seq.{take-append_seam, drop_at, drop-drop, drop-nil}
 use lib.ListN.{length, take, drop, length-append}
 use Rattle.lists.proofs.Sums.{All}
-use Rattle.segment.specs.declared.refusal.Check.TheVariants.{Clear}
 use Rattle.segment.proofs.ReadBack.{back32}
 use Rattle.pcap.specs.File.{linked, header_of}
-use Rattle.pcap.specs.Record.{head_of, bodied, next_of, place_from, next_in}
+use Rattle.pcap.specs.Record.{head_of, Found, bodied, next_of, place_from, next_behind, next_in}
 use Rattle.pcap.specs.Records.{Recorded, packet_of, size_of, joined, walk, walk_behind, capture, ReaderWalks}
 use Rattle.pcap.specs.Write.{head_in, record_in, file_header_in, Fits, ReadsBack}
 use Rattle.pcap.specs.declared.file.ByteOrder.{ByteOrder}
 use Rattle.pcap.specs.declared.file.ByteOrder.TheVariants.{LowFirst, HighFirst}
-use Rattle.pcap.specs.declared.file.FileHeader.{FileHeader}
-use Rattle.pcap.specs.declared.file.FileHeader.TheVariants.{Good}
 use Rattle.pcap.specs.declared.record.RecordHead.{RecordHead}
-use Rattle.pcap.specs.declared.record.Next.{Next}
-use Rattle.pcap.specs.declared.record.Next.TheVariants.{Record, End, Cut, Bad}
 use Rattle.pcap.proofs.Next.{next_headed, body_whole}
-use Rattle.pcap.proofs.Steps.{behind}
 use Rattle.pcap.proofs.Windows.{header-append}
 use Rattle.pcap.proofs.Written.{head_length, file_length}
 
@@ -38,14 +34,13 @@ unfolding walk next_of
 one_step o [] = refl
 one_step o (b ∷ s) = go (next_of o (b ∷ s)) refl
   where
-    go : (n : Next) → next_of o (b ∷ s) ≡ n → walk o 0 (b ∷ s) ≡ joined n (b ∷ s) (walk o 0 (drop (size_of n) (b ∷ s)))
-    go (Record h) e =
+    go : (n : Found) → next_of o (b ∷ s) ≡ n → walk o 0 (b ∷ s) ≡ joined n (b ∷ s) (walk o 0 (drop (size_of n) (b ∷ s)))
+    go (Ok (Some h)) e =
         let k : 16 + h.captured ≡ suc (16 + h.captured - 1) = omega arith in
         let d : drop (16 + h.captured) (b ∷ s) ≡ drop (16 + h.captured - 1) s = ap (λ (n : ℕ). drop n (b ∷ s)) k in
-        rw e (ap (joined (Record h) (b ∷ s)) (passed o s (16 + h.captured - 1) ∙ ap (walk o 0) (sym d)))
-    go End e = rw e
-    go Cut e = rw e
-    go Bad e = rw e
+        rw e (ap (joined (Ok (Some h)) (b ∷ s)) (passed o s (16 + h.captured - 1) ∙ ap (walk o 0) (sym d)))
+    go (Ok None) e = rw e
+    go (Err r) e = rw e
 
 -- A record
 
@@ -72,7 +67,7 @@ module _ (o : ByteOrder) (r : Recorded) (fits : Fits r) (y : List ℕ) where
   all = length-append (head_in o r.seconds r.micros (length r.packet) r.original) (r.packet ++ y)
       ∙ rw (head_length o r.seconds r.micros (length r.packet) r.original, length-append r.packet y)
 
-  next_back : next_of o bytes ≡ Record head
+  next_back : next_of o bytes ≡ Ok (Some head)
   unfolding head
   next_back =
       next_headed o bytes (omega (arith, all)) ∙ ap (λ (h : RecordHead). bodied h (length bytes - 16)) head_back
@@ -96,13 +91,13 @@ module _ (o : ByteOrder) (r : Recorded) (fits : Fits r) (y : List ℕ) where
       let a : record_in o r ++ y ≡ bytes = append_assoc (head_in o r.seconds r.micros (length r.packet) r.original) r.packet y in
       ap (walk o 0) a ∙ one_step o bytes ∙ rw (next_back, later_back, packet_back)
 
-records_back : (o : ByteOrder) (rs : List Recorded) → All Fits rs → walk o 0 (flat_map (record_in o) rs) ≡ record { records = rs; check = Clear }
+records_back : (o : ByteOrder) (rs : List Recorded) → All Fits rs → walk o 0 (flat_map (record_in o) rs) ≡ record { records = rs; check = all_clear }
 unfolding walk flat_map
 records_back o [] h = refl
 records_back o (r ∷ rs) h = record_back o r h.0 (flat_map (record_in o) rs) ∙ rw (records_back o rs h.1)
 
 -- the file header is good, in its byte order
-file_back : (o : ByteOrder) → header_of (file_header_in o) ≡ Good o
+file_back : (o : ByteOrder) → header_of (file_header_in o) ≡ Some o
 unfolding header_of linked file_header_in
 file_back LowFirst = refl
 file_back HighFirst = refl
@@ -111,20 +106,20 @@ pub read_back : (o : ByteOrder) (rs : List Recorded) → All Fits rs → ReadsBa
 unfolding capture
 read_back o rs h =
     let s = flat_map (record_in o) rs in
-    let g : header_of (file_header_in o ++ s) ≡ Good o = header-append (file_header_in o) s (omega (arith, file_length o)) ∙ file_back o in
-    ap (λ (f : FileHeader). walk_behind f (file_header_in o ++ s)) g ∙ passed o (file_header_in o ++ s) 24 ∙ ap (walk o 0) (drop_at (file_header_in o) s 24 (file_length o)) ∙ records_back o rs h
+    let g : header_of (file_header_in o ++ s) ≡ Some o = header-append (file_header_in o) s (omega (arith, file_length o)) ∙ file_back o in
+    ap (λ (f : Option ByteOrder). walk_behind f (file_header_in o ++ s)) g ∙ passed o (file_header_in o ++ s) 24 ∙ ap (walk o 0) (drop_at (file_header_in o) s 24 (file_length o)) ∙ records_back o rs h
 
 -- The reader, from place to place
 
-pub reader_walks : (s : List ℕ) (o : ByteOrder) → header_of s ≡ Good o → ReaderWalks s o
-unfolding capture
+pub reader_walks : (s : List ℕ) (o : ByteOrder) → header_of s ≡ Some o → ReaderWalks s o
+unfolding capture next_in
 reader_walks s o g =
     record {
-      first = ap (λ (f : FileHeader). walk_behind f s) g ∙ passed o s 24;
+      first = ap (λ (f : Option ByteOrder). walk_behind f s) g ∙ passed o s 24;
       next =
           λ at.
-          let n : next_in s at ≡ next_of o (drop (place_from at) s) = behind s at (Good o) g in
+          let n : next_in s at ≡ next_of o (drop (place_from at) s) = ap (λ (f : Option ByteOrder). next_behind f s at) g in
           one_step o (drop (place_from at) s)
-          ∙ ap (λ (x : Next). joined x (drop (place_from at) s) (walk o 0 (drop (size_of x) (drop (place_from at) s)))) (sym n)
+          ∙ ap (λ (x : Found). joined x (drop (place_from at) s) (walk o 0 (drop (size_of x) (drop (place_from at) s)))) (sym n)
           ∙ ap (λ (y : List ℕ). joined (next_in s at) (drop (place_from at) s) (walk o 0 y)) (drop-drop (size_of (next_in s at)) (place_from at) s);
     }

@@ -1,50 +1,45 @@
--- A window that is refilled: what is left in it, moved to its start byte by byte, and what was read behind that. Assumes nothing.
-use Prim.Native.Nat.{ℕ, ◌+◌, ◌-◌, ◌≤◌, ◌<◌, min}
-use mathlib.Core.Path.{◌≡◌, sym, ap, ◌∙◌}
-use mathlib.Core.List.{List, ◌++◌}
-use native.Mathlib.Nat.{zero-add}
-use native.Mathlib.Numerals.{add-one}
-use native.Mathlib.Omega.{arith}
-use lib.ListN.{length, take, drop, get_or, set, length-append, length-take, length-drop}
-use lib.Seq.{paste-suc, length-take-le, take-length, take-append-add, get_or-append-add, get_or-drop, get_or-take}
+-- A window that is refilled: what is left in it, moved to its start, and what was read behind that. Assumes nothing.
+use Rattle.std.proofs.Common.{◌≡◌, ℕ, ◌+◌, ◌-◌, min, List, ◌++◌, length, take, drop, sym, ap, ◌∙◌, zero-add, arith, length-append, length-take, length-drop}
+use Rattle.std.proofs.lemmas.List.{drop-take, take_min, drop_min}
+use Rattle.std.specs.List.{copy_within}
+use lib.Seq.{take-length, take-append-add}
 use borrow.Rule.Slice.PartMut.{put_mid}
 use Rattle.lists.specs.Bytes.{overwrite}
 use Rattle.lists.proofs.Lent.{headed}
 use Rattle.pcap.specs.Window.{left_in, refilled}
 
 module _ (at end : ℕ) (w : List ℕ) where
-  pub left-length : length (left_in at end w) ≡ min end (length w) - at
+  left-length : length (left_in at end w) ≡ min end (length w) - at
   left-length = simp (length-drop, length-take)
 
-  -- the window with so many bytes moved
-  abbrev pub moved_in : ℕ → List ℕ
-  moved_in i = take i (left_in at end w) ++ drop i w
+  -- the bytes from a to e, both of them within the window
+  pub moved : (e a : ℕ) → e ≡ min end (length w) → a ≡ min at e → copy_within w a e 0 ≡ overwrite (left_in at end w) w
+  moved e a p q =
+      let b : a + (e - a) ≡ e = omega arith in
+      let l : e ≡ length (take end w) = p ∙ sym (length-take end w) in
+      let left : take (e - a) (drop a w) ≡ left_in at end w =
+      sym (drop-take a (e - a) w) ∙ ap (λ (k : ℕ). drop a (take k w)) (b ∙ p) ∙ ap (drop a) (take_min end w)
+      ∙ ap (λ (k : ℕ). drop k (take end w)) (q ∙ ap (min at) l) ∙ drop_min at (take end w)
+      in
+      let n : e - a ≡ length (left_in at end w) = omega (arith, left-length) in
+      rw (left, n, zero-add)
 
-  pub moved_all : moved_in (length (left_in at end w)) ≡ overwrite (left_in at end w) w
-  moved_all = ap (λ (x : List ℕ). x ++ drop (length (left_in at end w)) w) (take-length (left_in at end w))
+  -- and behind them as much of what was read as fits
+  pub behind : (read mid last : List ℕ) (n : ℕ) → n ≡ length (left_in at end w) → mid ≡ overwrite (left_in at end w) w → length mid ≡ length w
+      → last ≡ overwrite (take (length (take (length mid - n) (drop n mid))) read) (take (length mid - n) (drop n mid))
+      → put_mid n (length mid - n) mid last ≡ overwrite (refilled at end read w) w
+  behind read mid last n count moved kept put =
+      let left = left_in at end w in
+      let room : length (take (length mid - n) (drop n mid)) ≡ length w - length left = simp (length-take, length-drop) (omega (arith, left-length)) in
+      let fit : List ℕ = take (length w - length left) read in
+      let l : length left + (length w - length left) ≡ length w = omega (arith, left-length) in
+      let parts : left ++ fit ≡ refilled at end read w =
+      sym (take-append-add left read (length w - length left)) ∙ ap (λ (k : ℕ). take k (left ++ read)) l
+      in
+      headed w left fit mid last n (sym count) (omega (arith, left-length)) (moved ∙ rw (take-length left))
+      (put ∙ rw (room, take-length fit)) ∙ ap (λ (x : List ℕ). overwrite x w) parts
 
-  module _ (i : ℕ) (h : i < length (left_in at end w)) where
-    -- the next one stands where it stood
-    next-byte : get_or (moved_in i) (at + i) 0 ≡ get_or (left_in at end w) i 0
-    next-byte =
-        let l = left-length in
-        let n : length (take i (left_in at end w)) ≡ i = length-take-le i (left_in at end w) (omega arith) in
-        let e : at + i ≡ length (take i (left_in at end w)) + at = omega arith in
-        ap (λ (k : ℕ). get_or (moved_in i) k 0) e
-        ∙ get_or-append-add (take i (left_in at end w)) (drop i w) at 0
-        ∙ get_or-drop i w at 0
-        ∙ ap (λ (k : ℕ). get_or w k 0) (omega arith)
-        ∙ sym (get_or-drop at (take end w) i 0 ∙ get_or-take end w (at + i) 0 (omega arith))
-
-    pub one_more : set (moved_in i) i (get_or (moved_in i) (at + i) 0) ≡ moved_in (i + 1)
-    one_more =
-        let l = left-length in
-        ap (set (moved_in i) i) next-byte ∙ simp zero-add at (paste-suc w 0 (left_in at end w) i 0 (omega arith) h) ∙ ap moved_in (sym (add-one i))
-
-  pub left-fits : length (left_in at end w) ≤ length w
-  left-fits = omega (arith, left-length)
-
-  -- what is left was moved, and as much of what was read as fits was copied behind it
+  -- both, by the part of what was read that fits
   module _ (read mid fit last : List ℕ) (n : ℕ)
       (count : n ≡ length (left_in at end w))
       (moved : mid ≡ overwrite (left_in at end w) w)
@@ -54,8 +49,8 @@ module _ (at end : ℕ) (w : List ℕ) where
     in_parts : left_in at end w ++ fit ≡ refilled at end read w
     in_parts =
         let left = left_in at end w in
+        let l : length w ≡ length left + (length w - length left) = omega (arith, left-length) in
         let r : length mid - n ≡ length w - length left = omega arith in
-        let l : length w ≡ length left + (length w - length left) = omega (arith, left-fits) in
         ap (λ (x : List ℕ). left ++ x) (fits ∙ ap (λ (k : ℕ). take k read) r)
         ∙ sym (ap (λ (k : ℕ). take k (left ++ read)) l ∙ take-append-add left read (length w - length left))
 
@@ -63,6 +58,6 @@ module _ (at end : ℕ) (w : List ℕ) where
     refill_done =
         let left = left_in at end w in (
           rw count (sym (length-append left fit)) ∙ ap length in_parts,
-          headed w left fit mid last n (sym count) (omega (arith, left-fits)) (moved ∙ sym moved_all)
+          headed w left fit mid last n (sym count) (omega (arith, left-length)) (moved ∙ rw (take-length left))
               (put ∙ ap (λ (x : List ℕ). x ++ drop (length fit) (take (length mid - n) (drop n mid))) (sym (take-length fit))) ∙ ap (λ (x : List ℕ). overwrite x w) in_parts,
         )

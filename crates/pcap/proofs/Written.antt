@@ -1,32 +1,15 @@
--- The checks of what is written, one after the other, how long the headers are, and what is put behind them. Assumes nothing.
-use Prim.Native.Nat.{ℕ, ◌+◌, ◌-◌, ◌≤◌, ◌<◌}
-use mathlib.Core.Path.{◌≡◌, refl, sym, ap, ◌∙◌}
-use mathlib.Core.List.{List, ◌++◌}
-use borrow.Author.Tests.{lt-ltb, le-ltb}
-use borrow.Rule.Slice.PartMut.{put_mid}
-use lib.ListN.{length, take, drop}
+-- How long the headers are that are written, the check of a record that is, and a header with bytes put behind it. Assumes nothing.
+use Rattle.std.proofs.Common.{◌≡◌, ℕ, ◌+◌, ◌-◌, ◌≤◌, List, ◌++◌, length, take, drop, sym, refl, ap, ◌∙◌, append_assoc, length-append, take_at, drop_at, drop-drop, le-ltb}
 use lib.Seq.{take-length}
+use borrow.Rule.Slice.PartMut.{put_mid}
 use Rattle.lists.specs.Bytes.{overwrite}
 use Rattle.lists.proofs.Lent.{headed}
-use Rattle.segment.specs.declared.refusal.Refusal.TheVariants.{Output, BadCapture}
-use Rattle.segment.specs.declared.refusal.Check.TheVariants.{Clear, Refused}
-use Rattle.pcap.specs.Write.{head_in, file_header_in, file_check, record_check}
+use Rattle.segment.specs.Refusal.{all_clear}
+use Rattle.pcap.specs.Write.{head_in, file_header_in, record_check}
 use Rattle.pcap.specs.declared.file.ByteOrder.{ByteOrder}
 use Rattle.pcap.specs.declared.file.ByteOrder.TheVariants.{LowFirst, HighFirst}
 
-pub file_refused : (room : ℕ) → room < 24 → file_check room ≡ Refused Output
-file_refused room h = rw (lt-ltb room 24 h)
-
-pub file_clear : (room : ℕ) → 24 ≤ room → file_check room ≡ Clear
-file_clear room h = rw (le-ltb room 24 h)
-
-pub record_over : (n room : ℕ) → 4096 < n → record_check n room ≡ Refused BadCapture
-record_over n room h = rw (lt-ltb 4096 n h)
-
-pub record_none : (n room : ℕ) → n ≤ 4096 → room < 16 + n → record_check n room ≡ Refused Output
-record_none n room h k = rw (le-ltb 4096 n h, lt-ltb room (16 + n) k)
-
-pub record_clear : (n room : ℕ) → n ≤ 4096 → 16 + n ≤ room → record_check n room ≡ Clear
+pub record_clear : (n room : ℕ) → n ≤ 4096 → 16 + n ≤ room → record_check n room ≡ all_clear
 record_clear n room h k = rw (le-ltb 4096 n h, le-ltb room (16 + n) k)
 
 -- how many bytes the headers have
@@ -40,7 +23,15 @@ unfolding file_header_in
 file_length LowFirst = refl
 file_length HighFirst = refl
 
--- a header put at the output's start, and then bytes behind it
+-- a header at the output's start, and bytes put whole behind it
+pub put_whole : (out h src : List ℕ) (n k : ℕ) → length h ≡ n → k ≡ length src → put_mid n k (h ++ drop n out) src ≡ overwrite (h ++ src) out
+put_whole out h src n k e f =
+    let later : drop k (drop n (h ++ drop n out)) ≡ drop (length h + length src) out =
+    ap (drop k) (drop_at h (drop n out) n e) ∙ drop-drop k n out ∙ rw (e, f)
+    in
+    rw (take_at h (drop n out) n e, later, length-append, append_assoc)
+
+-- a header put at the output's start, and then bytes behind it, as many as fit
 pub put_headed : (out h src mid last : List ℕ) (n : ℕ) → length h ≡ n → n ≤ length out
     → mid ≡ overwrite h out
     → last ≡ overwrite src (take (length mid - n) (drop n mid))

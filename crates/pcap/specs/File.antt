@@ -1,11 +1,9 @@
 -- Document 02, Item 3, and the classic pcap format: the file header of a capture, and numbers in either byte order.
 -- Assumes nothing.
-use Rattle.std.specs.Prelude.{ℕ, ◌+◌, List, Bool, cond, length, ltb, eqb}
+use Rattle.std.specs.Prelude.{ℕ, ◌+◌, List, Bool, cond, length, ltb, eqb, Option, None, Some}
 use Rattle.segment.specs.Bytes.{byte_at, long, long_at}
 use Rattle.pcap.specs.declared.file.ByteOrder.{ByteOrder}
 use Rattle.pcap.specs.declared.file.ByteOrder.TheVariants.{LowFirst, HighFirst}
-use Rattle.pcap.specs.declared.file.FileHeader.{FileHeader}
-use Rattle.pcap.specs.declared.file.FileHeader.TheVariants.{Bad, Good}
 
 -- how many bytes the file header has
 abbrev pub file_header : ℕ
@@ -25,13 +23,13 @@ long_in LowFirst s i = long (byte_at s (i + 3)) (byte_at s (i + 2)) (byte_at s (
 long_in HighFirst s i = long_at s i
 
 -- a file in this byte order is of raw IP packets: the whole word counts
-unfoldable pub linked : ByteOrder → List ℕ → FileHeader
-linked o s = cond (eqb (long_in o s 20) raw_ip) (Good o) Bad
+unfoldable pub linked : ByteOrder → List ℕ → Option ByteOrder
+linked o s = cond (eqb (long_in o s 20) raw_ip) (Some o) None
 
 -- whether a file begins with the magic number in a byte order
 abbrev pub begins : ByteOrder → List ℕ → Bool
 begins o s = eqb (long_in o s 0) magic
 
 -- the file header: short, of another magic number or link type it is bad
-unfoldable pub header_of : List ℕ → FileHeader
-header_of s = cond (ltb (length s) file_header) Bad (cond (begins LowFirst s) (linked LowFirst s) (cond (begins HighFirst s) (linked HighFirst s) Bad))
+unfoldable pub header_of : List ℕ → Option ByteOrder
+header_of s = cond (ltb (length s) file_header) None (cond (begins LowFirst s) (linked LowFirst s) (cond (begins HighFirst s) (linked HighFirst s) None))

@@ -1,27 +1,20 @@
 -- Document 02, Item 3: a capture that is read in pieces. The bytes in hand are those that the last step left and, behind them, the next piece.
 -- Assumes nothing.
-use Rattle.std.specs.Prelude.{ℕ, zero, suc, ◌+◌, ◌-◌, ◌<◌, ◌^◌, ◌≡◌, Bool, cond, ◌&&◌, length, drop, ltb}
+use Rattle.std.specs.Prelude.{ℕ, zero, suc, ◌+◌, ◌-◌, ◌<◌, ◌^◌, ◌≡◌, Bool, cond, ◌&&◌, length, drop, ltb, Err, Option, None, Some, Ok}
 use mathlib.Core.List.{List, [], ◌∷◌, ◌++◌, flatten}
-use Rattle.segment.specs.declared.refusal.Refusal.TheVariants.{BadCapture}
-use Rattle.segment.specs.declared.refusal.Check.{Check}
-use Rattle.segment.specs.declared.refusal.Check.TheVariants.{Clear, Refused}
+use Rattle.segment.specs.declared.refusal.Refusal.TheVariants.{CutRecord, BadCapture}
+use Rattle.segment.specs.Refusal.{Check, all_clear}
 use Rattle.pcap.specs.File.{file_header, header_of}
-use Rattle.pcap.specs.Record.{record_header, most_captured, next_of, check_of}
+use Rattle.pcap.specs.Record.{record_header, most_captured, Found, next_of, check_of}
 use Rattle.pcap.specs.Records.{Recorded, recorded_as, capture}
 use Rattle.pcap.specs.declared.file.ByteOrder.{ByteOrder}
-use Rattle.pcap.specs.declared.file.FileHeader.{FileHeader}
-use Rattle.pcap.specs.declared.file.FileHeader.TheVariants as file
-use Rattle.pcap.specs.declared.record.Next.{Next}
-use Rattle.pcap.specs.declared.record.Next.TheVariants as next
-use Rattle.pcap.specs.declared.walker.Stage.{Stage}
-use Rattle.pcap.specs.declared.walker.Stage.TheVariants.{Header, Records}
 use Rattle.pcap.specs.declared.walker.Walker.{Walker}
 use Rattle.pcap.specs.declared.walker.Taken.{Taken}
 use Rattle.pcap.specs.declared.walker.Taken.TheVariants.{Opened, Record, More, Bad, TooLong}
 use Rattle.pcap.specs.declared.walker.Step.{Step}
 
 abbrev pub fresh : Walker
-fresh = record { stage = Header; bytes = 0; records = 0 }
+fresh = record { order = None; bytes = 0; records = 0 }
 
 -- counts are of 64 bits: so many bytes more, and a record more, can be counted
 unfoldable pub has_room : Walker → ℕ → Bool
@@ -34,28 +27,28 @@ pub record Counts (w : Walker) (left : ℕ) : Type 0 where
 
 -- A step, on the bytes in hand
 
-abbrev pub opened_by : Walker → FileHeader → Taken
-opened_by w file.Bad = Bad
-opened_by w (file.Good o) = cond (has_room w file_header) (Opened o) TooLong
+abbrev pub opened_by : Walker → Option ByteOrder → Taken
+opened_by w None = Bad
+opened_by w (Some o) = cond (has_room w file_header) (Opened o) TooLong
 
 unfoldable pub header_taken : Walker → List ℕ → Taken
 header_taken w s = cond (ltb (length s) file_header) More (opened_by w (header_of s))
 
-abbrev pub next_taken : Walker → Next → Taken
-next_taken w (next.Record h) = cond (has_room w (record_header + h.captured)) (Record h) TooLong
-next_taken w next.End = More
-next_taken w next.Cut = More
-next_taken w next.Bad = Bad
+abbrev pub next_taken : Walker → Found → Taken
+next_taken w (Ok (Some h)) = cond (has_room w (record_header + h.captured)) (Record h) TooLong
+next_taken w (Ok None) = More
+next_taken w (Err CutRecord) = More
+next_taken w (Err r) = Bad
 
 unfoldable pub record_taken : Walker → ByteOrder → List ℕ → Taken
 record_taken w o s = next_taken w (next_of o s)
 
-abbrev pub taken_at : Walker → Stage → List ℕ → Taken
-taken_at w Header s = header_taken w s
-taken_at w (Records o) s = record_taken w o s
+abbrev pub taken_at : Walker → Option ByteOrder → List ℕ → Taken
+taken_at w None s = header_taken w s
+taken_at w (Some o) s = record_taken w o s
 
 abbrev pub taken_of : Walker → List ℕ → Taken
-taken_of w s = taken_at w w.stage s
+taken_of w s = taken_at w w.order s
 
 -- how many bytes it takes
 abbrev pub size_taken : Taken → ℕ
@@ -66,8 +59,8 @@ size_taken Bad = 0
 size_taken TooLong = 0
 
 abbrev pub walker_after : Walker → Taken → Walker
-walker_after w (Opened o) = record { stage = Records o; bytes = w.bytes + file_header; records = w.records }
-walker_after w (Record h) = record { stage = w.stage; bytes = w.bytes + (record_header + h.captured); records = w.records + 1 }
+walker_after w (Opened o) = record { order = Some o; bytes = w.bytes + file_header; records = w.records }
+walker_after w (Record h) = record { order = w.order; bytes = w.bytes + (record_header + h.captured); records = w.records + 1 }
 walker_after w More = w
 walker_after w Bad = w
 walker_after w TooLong = w
@@ -81,16 +74,16 @@ step_of w window at = step_by w (taken_of w (drop at window)) at
 
 -- The end of the input, with these bytes in hand
 
-abbrev pub header_check : FileHeader → Check
-header_check file.Bad = Refused BadCapture
-header_check (file.Good o) = Clear
+abbrev pub header_check : Option ByteOrder → Check
+header_check None = Err BadCapture
+header_check (Some o) = all_clear
 
-abbrev pub finish_at : Stage → List ℕ → Check
-finish_at Header s = header_check (header_of s)
-finish_at (Records o) s = check_of (next_of o s)
+abbrev pub finish_at : Option ByteOrder → List ℕ → Check
+finish_at None s = header_check (header_of s)
+finish_at (Some o) s = check_of (next_of o s)
 
 unfoldable pub finish_of : Walker → List ℕ → Check
-finish_of w s = finish_at w.stage s
+finish_of w s = finish_at w.order s
 
 -- All steps that the bytes in hand allow: the records, the walker then, and the bytes that are left
 

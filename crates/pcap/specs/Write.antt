@@ -1,18 +1,16 @@
 -- Document 02, Item 3, and the classic pcap format: captures that are written, and the same in the other byte order, for the reader.
 -- Assumes nothing.
-use Rattle.std.specs.Prelude.{ℕ, ◌+◌, ◌/◌, ◌%◌, ◌≤◌, ◌<◌, ◌^◌, ◌≡◌, length, ltb}
+use Rattle.std.specs.Prelude.{ℕ, ◌+◌, ◌/◌, ◌%◌, ◌≤◌, ◌<◌, ◌^◌, ◌≡◌, length, ltb, Result, Err, Ok}
 use mathlib.Core.List.{List, [], ◌∷◌, ◌++◌, flat_map}
 use Rattle.segment.specs.Bytes.{be16, be32}
-use Rattle.segment.specs.Refusal.{refusal}
+use Rattle.segment.specs.Refusal.{refusal, Check, all_clear}
+use Rattle.segment.specs.declared.refusal.Refusal.{Refusal}
 use Rattle.segment.specs.declared.refusal.Refusal.TheVariants.{Output, BadCapture}
-use Rattle.segment.specs.declared.refusal.Check.{Check}
-use Rattle.segment.specs.declared.refusal.Check.TheVariants.{Clear, Refused}
 use Rattle.pcap.specs.File.{file_header, magic, raw_ip}
 use Rattle.pcap.specs.Record.{record_header, most_captured}
 use Rattle.pcap.specs.Records.{Recorded, capture}
 use Rattle.pcap.specs.declared.file.ByteOrder.{ByteOrder}
 use Rattle.pcap.specs.declared.file.ByteOrder.TheVariants.{LowFirst, HighFirst}
-use Rattle.pcap.specs.declared.write.Written.{Written}
 
 -- the low 16 bits of a number as two bytes, and the low 32 as four
 abbrev pub short_bytes : ByteOrder → ℕ → List ℕ
@@ -54,11 +52,13 @@ record_check n room = refusal ((BadCapture, ltb most_captured n) ∷ (Output, lt
 
 -- what is written: nothing where it is refused
 abbrev pub put_by : Check → List ℕ → List ℕ
-put_by Clear bytes = bytes
-put_by (Refused r) bytes = []
+put_by (Ok _) bytes = bytes
+put_by (Err r) bytes = []
 
-abbrev pub writing : Check → List ℕ → Written
-writing c bytes = record { check = c; len = length (put_by c bytes) }
+-- what a write comes to: how many bytes it wrote, or why it is refused
+abbrev pub writing : Check → List ℕ → Result ℕ Refusal
+writing (Ok _) bytes = Ok (length bytes)
+writing (Err r) bytes = Err r
 
 -- A record fits: its numbers are of 32 bits, and its packet has up to 4,096 bytes
 pub record Fits (r : Recorded) : Type 0 where
@@ -73,4 +73,4 @@ capture_in o rs = file_header_in o ++ flat_map (record_in o) rs
 
 -- the walk over it gives the same records, and ends well
 abbrev pub ReadsBack : ByteOrder → List Recorded → Type 0
-ReadsBack o rs = capture (capture_in o rs) ≡ record { records = rs; check = Clear }
+ReadsBack o rs = capture (capture_in o rs) ≡ record { records = rs; check = all_clear }

@@ -2,8 +2,6 @@
 ghost use Rattle.std.specs.Prelude.{◌≡◌, ◌+◌, ◌≤◌, length};
 ghost use Rattle.pcap.specs.File.{long_in, linked, header_of};
 
-use segment::number::long32;
-
 // How many bytes the file header has.
 pub const FILE_HEADER: usize = 24;
 
@@ -20,43 +18,35 @@ pub enum ByteOrder {
     HighFirst,
 }
 
-// What a file header comes to: it is bad (document 02's number 15), or it tells the byte order of the file.
-#[derive(Clone, Copy, Drop)]
-pub enum FileHeader {
-    Bad,
-    Good(ByteOrder),
-}
-
 // The number of four bytes at a place.
 pub(crate) fn long_in(order: ByteOrder, s: &[u8], i: usize) -> u32
     requires { i + 4 ≤ length s.now }
     ensures { result ≡ long_in order s.now i }
 {
+    let bytes = [s[i], s[i + 1], s[i + 2], s[i + 3]];
     match order {
-        ByteOrder::LowFirst => long32(s[i + 3], s[i + 2], s[i + 1], s[i]),
-        ByteOrder::HighFirst => long32(s[i], s[i + 1], s[i + 2], s[i + 3]),
+        ByteOrder::LowFirst => u32::from_le_bytes(bytes),
+        ByteOrder::HighFirst => u32::from_be_bytes(bytes),
     }
 }
 
-// Whether the packets are raw IP: the whole word counts, in the file's byte order.
+// The byte order, where the packets are raw IP: the whole word counts, in that order.
 #[tactic(auto, unfolding(crate::specs::File::linked))]
-fn check_link(order: ByteOrder, s: &[u8]) -> FileHeader
+fn check_link(order: ByteOrder, s: &[u8]) -> Option<ByteOrder>
     requires { 24 ≤ length s.now }
     ensures { result ≡ linked order s.now }
 {
-    if long_in(order, s, 20) == RAW_IP {
-        return FileHeader::Good(order);
-    }
-    FileHeader::Bad
+    (long_in(order, s, 20) == RAW_IP).then_some(order)
 }
 
-// Reads the file header at a capture's start. Version, zone, accuracy and snap length are not looked at.
+// Reads the file header at a capture's start: the byte order of the file; none where the header is bad (document 02's number 15). Version, zone, accuracy
+// and snap length are not looked at.
 #[tactic(auto, unfolding(crate::specs::File::header_of))]
-pub fn read_file_header(file: &[u8]) -> FileHeader
+pub fn read_file_header(file: &[u8]) -> Option<ByteOrder>
     ensures { result ≡ header_of file.now }
 {
     if file.len() < FILE_HEADER {
-        return FileHeader::Bad;
+        return None;
     }
     if long_in(ByteOrder::LowFirst, file, 0) == MAGIC {
         return check_link(ByteOrder::LowFirst, file);
@@ -64,5 +54,5 @@ pub fn read_file_header(file: &[u8]) -> FileHeader
     if long_in(ByteOrder::HighFirst, file, 0) == MAGIC {
         return check_link(ByteOrder::HighFirst, file);
     }
-    FileHeader::Bad
+    None
 }

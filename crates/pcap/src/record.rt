@@ -2,9 +2,9 @@
 ghost use Rattle.std.specs.Prelude.{◌≡◌, ◌≤◌, length, take, drop};
 ghost use Rattle.pcap.specs.Record.{head_of, next_of, place_from, next_in, check_of};
 
-use crate::file::{ByteOrder, FILE_HEADER, FileHeader, long_in, read_file_header};
+use crate::file::{ByteOrder, FILE_HEADER, long_in, read_file_header};
 use segment::header::part;
-use segment::refusal::{Check, Refusal};
+use segment::refusal::Refusal;
 
 // How many bytes a record's header has.
 pub const RECORD_HEADER: usize = 16;
@@ -21,25 +21,15 @@ pub struct RecordHead {
     pub original: u32,
 }
 
-// What comes next in a capture: a whole record, the end, a record that is cut (document 02's number 14), or what no capture has (15).
-#[derive(Clone, Copy, Drop)]
-pub enum Next {
-    Record(RecordHead),
-    End,
-    Cut,
-    Bad,
-}
+// What comes next in a capture: the header of a whole record, nothing at the end, or why the walk is refused: a record that is cut (document 02's number 14),
+// or what no capture has (15).
+pub type Next = Result<Option<RecordHead>, Refusal>;
 
 // The refusal that the end of a walk comes to.
-pub fn check_of(next: Next) -> Check
+pub fn check_of(next: Next) -> Result<(), Refusal>
     ensures { result ≡ check_of next }
 {
-    match next {
-        Next::Record(_) => Check::Clear,
-        Next::End => Check::Clear,
-        Next::Cut => Check::Refused(Refusal::CutRecord),
-        Next::Bad => Check::Refused(Refusal::BadCapture),
-    }
+    next.map(|_| ())
 }
 
 // The header at the start of what is left.
@@ -62,21 +52,21 @@ pub fn next_record(order: ByteOrder, rest: &[u8]) -> Next
     ensures { result ≡ next_of order rest.now }
 {
     let n = rest.len();
-    if n == 0 {
-        return Next::End;
+    if rest.is_empty() {
+        return Ok(None);
     }
     if n < RECORD_HEADER {
-        return Next::Cut;
+        return Err(Refusal::CutRecord);
     }
     let head = head_of(order, rest);
     let captured = head.captured as usize;
     if MOST_CAPTURED < captured {
-        return Next::Bad;
+        return Err(Refusal::BadCapture);
     }
     if n - RECORD_HEADER < captured {
-        return Next::Cut;
+        return Err(Refusal::CutRecord);
     }
-    Next::Record(head)
+    Ok(Some(head))
 }
 
 // What is left of a capture from a place on.
@@ -90,7 +80,7 @@ pub fn rest_from(file: &[u8], at: usize) -> &[u8]
 fn place_from(at: usize) -> usize
     ensures { result ≡ place_from at }
 {
-    if at < FILE_HEADER { FILE_HEADER } else { at }
+    usize::max(at, FILE_HEADER)
 }
 
 // The reader: what stands at a place of a whole capture. A place within the file header stands for the first record.
@@ -98,11 +88,8 @@ fn place_from(at: usize) -> usize
 pub fn next_at(file: &[u8], at: usize) -> Next
     ensures { result ≡ next_in file.now at }
 {
-    let from = place_from(at);
-    match read_file_header(file) {
-        FileHeader::Bad => Next::Bad,
-        FileHeader::Good(order) => next_record(order, rest_from(file, from)),
-    }
+    let order = read_file_header(file).ok_or(Refusal::BadCapture)?;
+    next_record(order, rest_from(file, place_from(at)))
 }
 
 // The packet of the record at the start of what is left, as a part of it.

@@ -3,27 +3,20 @@
 ghost use Rattle.std.specs.Prelude.{◌≡◌, ◌+◌, drop};
 ghost use Rattle.pcap.specs.Walker.{fresh, has_room, header_taken, record_taken, step_by, step_of, finish_of};
 
-use crate::file::{ByteOrder, FILE_HEADER, FileHeader, read_file_header};
-use crate::record::{Next, RECORD_HEADER, RecordHead, check_of, next_record, rest_from};
-use segment::refusal::{Check, Refusal};
+use crate::file::{ByteOrder, FILE_HEADER, read_file_header};
+use crate::record::{RECORD_HEADER, RecordHead, check_of, next_record, rest_from};
+use segment::refusal::Refusal;
 
-// Before the file header, or behind it, with its byte order.
-#[derive(Clone, Copy, Drop)]
-pub enum Stage {
-    Header,
-    Records(ByteOrder),
-}
-
-// How far the walk is, how many bytes it has taken and how many records, which is the place of the next one.
+// How far the walk is: the byte order, once the file header was taken; how many bytes it has taken, and how many records, which is the place of the next one.
 #[derive(Clone, Copy, Drop)]
 pub struct Walker {
-    pub stage: Stage,
+    pub order: Option<ByteOrder>,
     pub bytes: u64,
     pub records: u64,
 }
 
 // What a step comes to: the file header was taken, or a record; more bytes are needed, if any are to come; the walk is over with number 15; or the
-// capture is longer than can be counted.
+// capture is longer than can be counted, for which there is no number.
 #[derive(Clone, Copy, Drop)]
 pub enum Taken {
     Opened(ByteOrder),
@@ -45,7 +38,7 @@ pub fn new_walker() -> Walker
     ensures { result ≡ fresh }
 {
     Walker {
-        stage: Stage::Header,
+        order: None,
         bytes: 0,
         records: 0,
     }
@@ -56,10 +49,7 @@ pub fn new_walker() -> Walker
 fn has_room(w: Walker, size: usize) -> bool
     ensures { result ≡ has_room w size }
 {
-    if w.records == u64::MAX {
-        return false;
-    }
-    size as u64 <= u64::MAX - w.bytes
+    w.records < u64::MAX && size as u64 <= u64::MAX - w.bytes
 }
 
 // A step that takes nothing.
@@ -81,22 +71,20 @@ fn take_header(w: Walker, window: &[u8], at: usize) -> Step
     if rest.len() < FILE_HEADER {
         return stand(w, Taken::More, at);
     }
-    match read_file_header(rest) {
-        FileHeader::Bad => stand(w, Taken::Bad, at),
-        FileHeader::Good(order) => {
-            if !has_room(w, FILE_HEADER) {
-                return stand(w, Taken::TooLong, at);
-            }
-            Step {
-                taken: Taken::Opened(order),
-                walker: Walker {
-                    stage: Stage::Records(order),
-                    bytes: w.bytes + FILE_HEADER as u64,
-                    records: w.records,
-                },
-                next: at + FILE_HEADER,
-            }
-        }
+    let Some(order) = read_file_header(rest) else {
+        return stand(w, Taken::Bad, at);
+    };
+    if !has_room(w, FILE_HEADER) {
+        return stand(w, Taken::TooLong, at);
+    }
+    Step {
+        taken: Taken::Opened(order),
+        walker: Walker {
+            order: Some(order),
+            bytes: w.bytes + FILE_HEADER as u64,
+            ..w
+        },
+        next: at + FILE_HEADER,
     }
 }
 
@@ -105,21 +93,19 @@ fn take_record(w: Walker, order: ByteOrder, window: &[u8], at: usize) -> Step
     ensures { result ≡ step_by w (record_taken w order (drop at window.now)) at }
 {
     match next_record(order, rest_from(window, at)) {
-        Next::End => stand(w, Taken::More, at),
-        Next::Cut => stand(w, Taken::More, at),
-        Next::Bad => stand(w, Taken::Bad, at),
-        Next::Record(head) => {
+        Ok(None) | Err(Refusal::CutRecord) => stand(w, Taken::More, at),
+        Err(_) => stand(w, Taken::Bad, at),
+        Ok(Some(head)) => {
             let size = RECORD_HEADER + head.captured as usize;
             if !has_room(w, size) {
                 return stand(w, Taken::TooLong, at);
             }
-            let stage = w.stage;
             Step {
                 taken: Taken::Record(head),
                 walker: Walker {
-                    stage,
                     bytes: w.bytes + size as u64,
                     records: w.records + 1,
+                    ..w
                 },
                 next: at + size,
             }
@@ -132,25 +118,22 @@ fn take_record(w: Walker, order: ByteOrder, window: &[u8], at: usize) -> Step
 pub fn take_next(w: Walker, window: &[u8], at: usize) -> Step
     ensures { result ≡ step_of w window.now at }
 {
-    let stage = w.stage;
-    match stage {
-        Stage::Header => take_header(w, window, at),
-        Stage::Records(order) => take_record(w, order, window, at),
+    match w.order {
+        None => take_header(w, window, at),
+        Some(order) => take_record(w, order, window, at),
     }
 }
 
 // The number that a walk ends with, where no byte is to come behind the window.
 #[tactic(auto, unfolding(crate::specs::Walker::finish_of))]
-pub fn finish(w: Walker, window: &[u8], at: usize) -> Check
+pub fn finish(w: Walker, window: &[u8], at: usize) -> Result<(), Refusal>
     ensures { result ≡ finish_of w (drop at window.now) }
 {
     let rest = rest_from(window, at);
-    let stage = w.stage;
-    match stage {
-        Stage::Header => match read_file_header(rest) {
-            FileHeader::Bad => Check::Refused(Refusal::BadCapture),
-            FileHeader::Good(_) => Check::Clear,
-        },
-        Stage::Records(order) => check_of(next_record(order, rest)),
+    match w.order {
+        None => read_file_header(rest)
+            .map(|_| ())
+            .ok_or(Refusal::BadCapture),
+        Some(order) => check_of(next_record(order, rest)),
     }
 }

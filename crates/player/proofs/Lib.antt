@@ -1,3 +1,3 @@
--- Reading: what is read is the request that the line is. Playing: what a request comes to, of an order with its buffers.
-pub mod Reading
+-- Lines: an outcome's line. Playing: what a request comes to, of an order with its buffers.
+pub mod Lines
 pub mod Playing

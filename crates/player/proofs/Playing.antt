@@ -3,22 +3,16 @@ use Prim.Native.Nat.{ℕ, min}
 use mathlib.Core.Path.{◌≡◌, refl, ◌∙◌}
 use mathlib.Core.Bool.{Bool, true, false}
 use mathlib.Core.List.{List}
-use mathlib.Core.Option.{Option, some}
+use Rattle.std.specs.Prelude.{Option, Some}
 use lib.ListN.{length, take, replicate, length-replicate}
 use Rattle.protocol.specs.declared.state.Listener.{Listener}
-use Rattle.protocol.specs.declared.outcome.Outcome.{Outcome}
-use Rattle.protocol.specs.Call.{number_of_event, accepted_part}
 use Rattle.text.specs.Put.{laid}
 use Rattle.text.proofs.Arguments.{take-replicate}
-use Rattle.text.proofs.Puts.{Put}
 use Rattle.player.specs.Request.{Request, releasing, request_in}
-use Rattle.player.specs.Line.{outcome_line}
-use Rattle.player.specs.Play.{outcome_of, lent_to, lent_then, brought_by, playing_with, request_playing, played_in}
+use Rattle.player.specs.Play.{lent_to, lent_then, brought_by, playing_with, request_playing}
 use Rattle.player.specs.Order.{out_length, seg_length, request_with, request_read}
-use Rattle.text.specs.declared.line.Reply.TheVariants.{Number}
-use Rattle.player.specs.declared.play.Played.{Played}
-use Rattle.player.specs.declared.read.Reading.{Reading}
-use Rattle.player.specs.declared.read.Reading.TheVariants.{Known}
+use Rattle.text.specs.declared.play.Played.{Played}
+use Rattle.text.specs.Play.{played_in}
 use Rattle.player.specs.declared.read.Order.{Order}
 use Rattle.player.specs.declared.read.Order.TheVariants.{Start, Settings, Key, Segment, Release, Resend}
 
@@ -32,7 +26,7 @@ pub unwritten : (l : Listener) (a b : List ℕ) (k : ℕ) (lent : List ℕ) {o :
 unwritten l a b k lent {o} {e} {t} {n} {p} h = rw h (unwritten_by l e t (take n a) p lent)
 
 -- the segment that an order brings
-brought : (o : Order) (a b : List ℕ) (n : ℕ) → brought_by (request_with o a b n) ≡ take (seg_length o) b
+pub brought : (o : Order) (a b : List ℕ) (n : ℕ) → brought_by (request_with o a b n) ≡ take (seg_length o) b
 brought (Start own port k) a b n = refl
 brought (Settings t g) a b n = refl
 brought (Key t k) a b n = refl
@@ -53,23 +47,13 @@ lent-to (Resend t k p out) a b = refl
 
 -- an order that was read, with the first bytes of the output
 lending : (l : Listener) (o : Order) (a b lent : List ℕ) (q : Option Request) → lent ≡ take (out_length o) (replicate 2048 165)
-    → some (request_with o a b (min (out_length o) 2048)) ≡ q → playing_with l (request_with o a b (length lent)) lent ≡ request_playing l q
+    → Some (request_with o a b (min (out_length o) 2048)) ≡ q → playing_with l (request_with o a b (length lent)) lent ≡ request_playing l q
 lending l o a b lent q e h =
     let f : lent ≡ replicate (min (out_length o) 2048) 165 = e ∙ take-replicate (out_length o) 2048 165 in
     rw (← h, lent-to o a b, f, length-replicate {A = ℕ} (min (out_length o) 2048) 165)
 
-pub ordered : (l : Listener) (s a b text : List ℕ) {k : Reading} {o : Order} {lent text' : List ℕ} {r : Played} → k ≡ Known o → request_read k a b ≡ request_in s
+pub ordered : (l : Listener) (s a b text : List ℕ) {k : Option Order} {o : Order} {lent text' : List ℕ} {r : Played Listener} → k ≡ Some o → request_read k a b ≡ request_in s
     → lent ≡ take (out_length o) (replicate 2048 165) → r ≡ played_in (length text) (playing_with l (request_with o a b (length lent)) lent)
     → text' ≡ laid 0 (playing_with l (request_with o a b (length lent)) lent).text text
     → (r ≡ played_in (length text) (request_playing l (request_in s))) × (text' ≡ laid 0 (request_playing l (request_in s)).text text)
 ordered l s a b text {o} {lent} h q e f g = rw (← lending l o a b lent (request_in s) e (rw h at q)) (f, g)
-
--- an order's outcome, put as text
-pub played : (l : Listener) (o : Order) (a b lent text : List ℕ) {x : Outcome} {lent' part text' : List ℕ} {len n : ℕ}
-    → x ≡ outcome_of l (request_with o a b (length lent)) → lent' ≡ lent_then l (request_with o a b (length lent)) lent
-    → part ≡ accepted_part (take (seg_length o) b) x.event → n ≡ number_of_event x.event
-    → Put text 0 (outcome_line x lent' part) len text'
-    → (record { listener = x.listener; reply = Number n; len = len } ≡ played_in (length text) (playing_with l (request_with o a b (length lent)) lent))
-    × (text' ≡ laid 0 (playing_with l (request_with o a b (length lent)) lent).text text)
-played l o a b lent text e f g h p =
-    rw (← e, ← f, brought o a b (length lent), ← g, ← h) (rw p.0, p.1)

@@ -1,16 +1,14 @@
 -- The replay format (docs/REPLAY.md), "Lines out", of `replay`. What an event is in 01's words is the listener's.
 -- Assumes nothing.
-use Rattle.std.specs.Prelude.{ℕ, Bool, List, [], ◌∷◌, length, take}
-use Rattle.segment.specs.declared.refusal.Check.{Check}
-use Rattle.segment.specs.declared.refusal.Check.TheVariants.{Clear}
-use Rattle.segment.specs.declared.refusal.Check.TheVariants.{Refused as CheckRefused}
+use Rattle.std.specs.Prelude.{ℕ, Bool, List, [], ◌∷◌, ◌++◌, length, take, Err, Ok}
+use Rattle.segment.specs.Refusal.{Check}
 use Rattle.protocol.specs.declared.outcome.Event.{Event}
 use Rattle.protocol.specs.declared.outcome.Event.TheVariants.{Refused, Done}
 use Rattle.protocol.specs.Call.{number_of_event, accepted_of, SegmentKind, opening, reset, completion, none, kind_of_event, Verdict, early, plain, repeat, no_verdict, verdict_of}
 use Rattle.text.specs.Number.{decimal}
 use Rattle.text.specs.ByteString.{hex_word}
 use Rattle.text.specs.Output.{is_kept}
-use Rattle.text.specs.Put.{fields, end_words}
+use Rattle.text.specs.Put.{field, fields, end_words}
 use Rattle.protocol.specs.declared.outcome.Outcome.{Outcome}
 use Rattle.segment.specs.declared.options.Remarks.{Remarks}
 use Rattle.protocol.specs.Step.{pending_number}
@@ -28,6 +26,10 @@ verdict_word early = 101 ∷ 97 ∷ 114 ∷ 108 ∷ 121 ∷ []
 verdict_word plain = 112 ∷ 108 ∷ 97 ∷ 105 ∷ 110 ∷ []
 verdict_word repeat = 114 ∷ 101 ∷ 112 ∷ 101 ∷ 97 ∷ 116 ∷ []
 verdict_word no_verdict = 45 ∷ []
+
+-- the first words, by the event alone: NUMBER KIND VERDICT ACCEPTED
+unfoldable pub event_fields : Event → List ℕ
+event_fields event = field (decimal (number_of_event event)) ++ field (kind_word (kind_of_event event)) ++ field (verdict_word (verdict_of event)) ++ field (decimal (accepted_of event))
 
 -- NUMBER KIND VERDICT ACCEPTED WRITTEN PENDING OUTPUT PART REST SKIPPED USED BROKEN
 unfoldable pub line_of : Event → ℕ → List ℕ → List ℕ → Bool → Remarks → List ℕ
@@ -49,5 +51,5 @@ outcome_line o lent part = line_of o.event (pending_number o.listener) (take o.w
 
 -- a start prints like any other call that is no segment
 abbrev pub event_of : Check → Event
-event_of Clear = Done
-event_of (CheckRefused why) = Refused why
+event_of (Ok _) = Done
+event_of (Err why) = Refused why

@@ -1,7 +1,6 @@
 -- The replay format (docs/REPLAY.md): what playing a line on a listener comes to.
 -- Assumes nothing.
-use Rattle.std.specs.Prelude.{ℕ, cond, List, [], ltb, length, replicate}
-use Rattle.std.proofs.Math.Option.{Option, none, some}
+use Rattle.std.specs.Prelude.{ℕ, List, [], Option, Some, None, replicate}
 use Rattle.lists.specs.Bytes.{overwrite}
 use Rattle.protocol.specs.declared.state.Listener.{Listener}
 use Rattle.protocol.specs.declared.outcome.Outcome.{Outcome}
@@ -9,13 +8,10 @@ use Rattle.protocol.specs.declared.outcome.Started.{Started}
 use Rattle.segment.specs.Remarks.{no_remarks}
 use Rattle.protocol.specs.Call.{segment, settings, key, abandon, resend, close, number_of_event, accepted_part}
 use Rattle.protocol.specs.Step.{start_of, outcome, step, output_of}
-use Rattle.text.specs.Line.{longest, is_silent}
-use Rattle.text.specs.Put.{place_after, bad_line}
+use Rattle.text.specs.Play.{Playing, bad_playing, line_playing}
 use Rattle.player.specs.Request.{Request, start, call, request_in}
 use Rattle.player.specs.Line.{outcome_line, event_of}
-use Rattle.text.specs.declared.line.Reply.{Reply}
-use Rattle.text.specs.declared.line.Reply.TheVariants.{Silent, Bad, Number}
-use Rattle.player.specs.declared.play.Played.{Played}
+use Rattle.text.specs.declared.line.Reply.TheVariants.{Number}
 
 -- A start's outcome is that of any other call that is no segment.
 abbrev pub start_outcome : Started → Outcome
@@ -55,39 +51,23 @@ brought_by (call (abandon t a p)) = []
 brought_by (call (resend t a p out)) = []
 brought_by (call (close t a p)) = []
 
--- What a line comes to: the listener next, the reply, and the text that is printed.
-pub record Playing : Type 0 where
-  pub listener : Listener
-  pub reply : Reply
-  pub text : List ℕ
-
 -- an outcome's, with the output as it is after the request
-abbrev pub outcome_playing : Outcome → List ℕ → List ℕ → Playing
+abbrev pub outcome_playing : Outcome → List ℕ → List ℕ → Playing Listener
 outcome_playing o lent seg =
     record {
-      listener = o.listener;
+      state = o.listener;
       reply = Number (number_of_event o.event);
       text = outcome_line o lent (accepted_part seg o.event);
     }
 
 -- a request that is lent these bytes
-abbrev pub playing_with : Listener → Request → List ℕ → Playing
+abbrev pub playing_with : Listener → Request → List ℕ → Playing Listener
 playing_with l q lent = outcome_playing (outcome_of l q) (lent_then l q lent) (brought_by q)
 
--- a bad line changes nothing
-abbrev pub bad_playing : Listener → Playing
-bad_playing l = record { listener = l; reply = Bad; text = bad_line }
-
-abbrev pub request_playing : Listener → Option Request → Playing
-request_playing l none = bad_playing l
-request_playing l (some q) = playing_with l q (replicate (lent_to q) 165)
+abbrev pub request_playing : Listener → Option Request → Playing Listener
+request_playing l None = bad_playing l
+request_playing l (Some q) = playing_with l q (replicate (lent_to q) 165)
 
 -- A line of n bytes; of one longer than is read, s is the start.
-unfoldable pub playing : Listener → List ℕ → ℕ → Playing
-playing l s n =
-    cond (is_silent s) (record { listener = l; reply = Silent; text = [] })
-    (cond (ltb longest n) (bad_playing l) (request_playing l (request_in s)))
-
--- what is played where the text goes to a buffer of so many bytes, which takes as much as fits
-abbrev pub played_in : ℕ → Playing → Played
-played_in n p = record { listener = p.listener; reply = p.reply; len = place_after 0 (length p.text) n }
+abbrev pub playing : Listener → List ℕ → ℕ → Playing Listener
+playing l s n = line_playing (λ l s. request_playing l (request_in s)) l s n

@@ -1,22 +1,22 @@
 // The line of a call's outcome.
-ghost use Rattle.std.specs.Prelude.{◌≡◌, ◌++◌, length};
+ghost use Rattle.std.specs.Prelude.{◌≡◌, ◌++◌};
 ghost use Rattle.protocol.specs.Call.{kind_of_event, verdict_of};
-ghost use Rattle.text.specs.Put.{place_after, laid, field};
-ghost use Rattle.player.specs.Line.{kind_word, verdict_word, line_of, outcome_line, event_of};
+ghost use Rattle.text.specs.Put.{put_after, field};
+ghost use Rattle.player.specs.Line.{kind_word, verdict_word, event_fields, line_of, outcome_line, event_of};
 
 use listener::calls::pending;
 use listener::outcome::{accepted_count, event_number};
 use protocol::outcome::{Event, Outcome};
 use segment::options::Remarks;
-use segment::refusal::Check;
+use segment::refusal::Refusal;
 use text::output::is_kept;
 use text::part::first;
-use text::put::{put_bytes_field, put_end, put_field, put_number_field};
+use text::put::Text;
 
-// Puts the line of what a call came to at a place, and returns where it ends: `lent` is the output that was lent to it.
-pub(crate) fn put_outcome(out: &mut [u8], at: usize, o: Outcome, lent: &[u8], part: &[u8]) -> usize
-    ensures value { result ≡ place_after at (length (outcome_line o lent.now part.now)) (length out.old) }
-    ensures out_after { out.new ≡ laid at (outcome_line o lent.now part.now) out.old }
+// Puts the line of what a call came to: `lent` is the output that was lent to it.
+#[tactic(auto, unfolding(crate::specs::Line::outcome_line))]
+pub(crate) fn put_outcome(text: &mut Text<'_>, o: Outcome, lent: &[u8], part: &[u8])
+    ensures { text.new ≡ put_after (outcome_line o lent.now part.now) text.old }
 {
     let l = o.listener;
     let event = o.event;
@@ -24,70 +24,73 @@ pub(crate) fn put_outcome(out: &mut [u8], at: usize, o: Outcome, lent: &[u8], pa
     let written = o.written;
     let kept = is_kept(lent, written);
     put_fields(
-        out,
-        at,
+        text,
         event,
         pending(l),
         first(lent, written),
         part,
         kept,
         remarks,
-    )
+    );
 }
 
-// Puts the line of an event at a place, and returns where it ends: how many are pending, what was written, the accepted part, whether the lent bytes past the
-// written ones are as they were, and what was remarked.
+// Puts the line of an event: how many are pending, what was written, the accepted part, whether the lent bytes past the written ones are as they were, and what
+// was remarked.
+#[tactic(auto, using(text::proofs::Puts::puts, crate::proofs::Lines::line_joined))]
 pub fn put_fields(
-    out: &mut [u8],
-    at: usize,
+    text: &mut Text<'_>,
     event: Event,
     pending: u32,
     written: &[u8],
     part: &[u8],
     kept: bool,
     remarks: Remarks,
-) -> usize
-    ensures value { result ≡ place_after at (length (line_of event pending written.now part.now kept remarks)) (length out.old) }
-    ensures out_after { out.new ≡ laid at (line_of event pending written.now part.now kept remarks) out.old }
+)
+    ensures { text.new ≡ put_after (line_of event pending written.now part.now kept remarks) text.old }
 {
-    let a = put_number_field(out, at, event_number(event) as u64);
-    let b = put_kind_and_verdict(out, a, event);
-    let c = put_number_field(out, b, accepted_count(event) as u64);
-    let d = put_number_field(out, c, written.len() as u64);
-    let e = put_number_field(out, d, pending as u64);
-    let f = put_bytes_field(out, e, written);
-    let g = put_bytes_field(out, f, part);
-    put_end(
-        out,
-        g,
+    put_event(text, event);
+    text.put_number_field(written.len() as u64);
+    text.put_number_field(pending as u64);
+    text.put_bytes_field(written);
+    text.put_bytes_field(part);
+    text.put_end(
         kept,
         remarks.skipped as u64,
         remarks.used as u64,
         remarks.broken as u64,
-    )
+    );
 }
 
-fn put_kind_and_verdict(out: &mut [u8], at: usize, event: Event) -> usize
-    ensures value { result ≡ place_after at (length (field (kind_word (kind_of_event event)) ++ field (verdict_word (verdict_of event)))) (length out.old) }
-    ensures out_after { out.new ≡ laid at (field (kind_word (kind_of_event event)) ++ field (verdict_word (verdict_of event))) out.old }
+// Puts what an event is: its number, its kind and verdict, and how many bytes it accepts.
+#[tactic(auto, using(text::proofs::Puts::puts, std::proofs::Common::append_assoc), unfolding(crate::specs::Line::event_fields))]
+fn put_event(text: &mut Text<'_>, event: Event)
+    ensures { text.new ≡ put_after (event_fields event) text.old }
+{
+    text.put_number_field(event_number(event) as u64);
+    put_kind_and_verdict(text, event);
+    text.put_number_field(accepted_count(event) as u64);
+}
+
+fn put_kind_and_verdict(text: &mut Text<'_>, event: Event)
+    ensures { text.new ≡ put_after (field (kind_word (kind_of_event event)) ++ field (verdict_word (verdict_of event))) text.old }
 {
     match event {
-        Event::Refused(_) => put_field(out, at, b"- -"),
-        Event::FastOpened(_) => put_field(out, at, b"opening early"),
-        Event::Regular => put_field(out, at, b"opening plain"),
-        Event::Retransmission => put_field(out, at, b"opening repeat"),
-        Event::Completed => put_field(out, at, b"completion -"),
-        Event::WasReset => put_field(out, at, b"reset -"),
-        Event::Done => put_field(out, at, b"- -"),
+        Event::Refused(_) => text.put_field(b"- -"),
+        Event::FastOpened(_) => text.put_field(b"opening early"),
+        Event::Regular => text.put_field(b"opening plain"),
+        Event::Retransmission => text.put_field(b"opening repeat"),
+        Event::Completed => text.put_field(b"completion -"),
+        Event::WasReset => text.put_field(b"reset -"),
+        Event::Done => text.put_field(b"- -"),
     }
 }
 
 // A start prints like any other call that is no segment.
-pub(crate) fn event_of(check: Check) -> Event
+pub(crate) fn event_of(check: Result<(), Refusal>) -> Event
     ensures { result ≡ event_of check }
 {
     match check {
-        Check::Clear => Event::Done,
-        Check::Refused(why) => Event::Refused(why),
+        Ok(()) => Event::Done,
+        Err(why) => Event::Refused(why),
     }
 }

@@ -1,31 +1,25 @@
-// A line, played on a listener.
+// What lines are played on here: a listener.
 ghost use Rattle.std.specs.Prelude.{◌≡◌, length};
 ghost use Rattle.protocol.specs.Refusals.{release_of};
 ghost use Rattle.protocol.specs.Step.{step};
+ghost use Rattle.text.specs.Play.{played_in};
 ghost use Rattle.text.specs.Put.{laid};
 ghost use Rattle.player.specs.Request.{request_in};
-ghost use Rattle.player.specs.Play.{start_outcome, outcome_of, lent_then, playing_with, bad_playing, request_playing, playing, played_in};
+ghost use Rattle.player.specs.Play.{start_outcome, outcome_of, lent_then, playing_with, request_playing, playing};
 ghost use Rattle.player.specs.Order.{request_with};
 
 use crate::line::{event_of, put_outcome};
-use crate::read::{Order, Reading, out_len, read_request, seg_len};
+use crate::read::{Order, out_len, read_request, seg_len};
 use listener::calls::{abandon, close, resend, segment, set_key, set_settings, start};
 use listener::outcome::{accepted_part, event_number, new_outcome};
 use protocol::outcome::{Outcome, Started};
 use protocol::state::Listener;
 use segment::options::no_remarks;
-use text::line::{LONGEST, MOST_BYTES, Reply, is_silent};
+use text::line::{MOST_BYTES, Reply};
 use text::output::{FILL, MOST_OUTPUT};
 use text::part::{first, first_mut};
-use text::put::put_bad_line;
-
-// The listener next, the reply, and how many bytes of text were put.
-#[derive(Clone, Copy, Drop)]
-pub struct Played {
-    pub listener: Listener,
-    pub reply: Reply,
-    pub len: usize,
-}
+use text::play::{Play, Played, bad_line, play_line as play_line_on};
+use text::put::Text;
 
 fn started(s: Started) -> Outcome
     ensures { result ≡ start_outcome s }
@@ -77,6 +71,7 @@ fn make_request(l: Listener, order: Order, a: &[u8], b: &[u8], lent: &mut [u8]) 
 }
 
 // Plays an order, with so much output lent.
+#[tactic(auto, using(text::proofs::Puts::puts, crate::proofs::Playing::brought))]
 fn play_order(
     l: Listener,
     order: Order,
@@ -84,7 +79,7 @@ fn play_order(
     b: &[u8],
     lent: &mut [u8],
     text: &mut [u8],
-) -> Played
+) -> Played<Listener>
     ensures value { result ≡ played_in (length text.old) (playing_with l (request_with order a.now b.now (length lent.old)) lent.old) }
     ensures text_after { text.new ≡ laid 0 (playing_with l (request_with order a.now b.now (length lent.old)) lent.old).text text.old }
 {
@@ -92,61 +87,39 @@ fn play_order(
     let listener = o.listener;
     let event = o.event;
     let part = accepted_part(first(b, seg_len(order)), event);
-    let len = put_outcome(text, 0, o, lent, part);
+    let mut line = Text { out: text, at: 0 };
+    put_outcome(&mut line, o, lent, part);
     let reply = Reply::Number(event_number(event));
     Played {
-        listener,
+        state: listener,
         reply,
-        len,
+        len: line.at,
     }
 }
 
-fn bad_line(l: Listener, text: &mut [u8]) -> Played
-    ensures value { result ≡ played_in (length text.old) (bad_playing l) }
-    ensures text_after { text.new ≡ laid 0 (bad_playing l).text text.old }
-{
-    let len = put_bad_line(text, 0);
-    Played {
-        listener: l,
-        reply: Reply::Bad,
-        len,
-    }
-}
+// A listener's lines.
+pub struct OnListener;
 
-fn play_request(l: Listener, line: &[u8], text: &mut [u8]) -> Played
-    ensures value { result ≡ played_in (length text.old) (request_playing l (request_in line.now)) }
-    ensures text_after { text.new ≡ laid 0 (request_playing l (request_in line.now)).text text.old }
-{
-    let mut a = [0u8; MOST_BYTES];
-    let mut b = [0u8; MOST_BYTES];
-    let mut out = [FILL; MOST_OUTPUT];
-    match read_request(line, &mut a, &mut b) {
-        Reading::Bad => bad_line(l, text),
-        Reading::Known(order) => play_order(
-            l,
-            order,
-            &a,
-            &b,
-            first_mut(&mut out, out_len(order)),
-            text,
-        ),
+impl Play for OnListener {
+    type State = Listener;
+
+    ghost asked = { λ l s. request_playing l (request_in s) };
+
+    fn play_request(l: Listener, line: &[u8], text: &mut [u8]) -> Played<Listener> {
+        let mut a = [0u8; MOST_BYTES];
+        let mut b = [0u8; MOST_BYTES];
+        let mut out = [FILL; MOST_OUTPUT];
+        match read_request(line, &mut a, &mut b) {
+            None => bad_line(l, text),
+            Some(order) => play_order(l, order, &a, &b, first_mut(&mut out, out_len(order)), text),
+        }
     }
 }
 
 // Plays a whole line of `len` bytes, of a longer one than is read its start, and puts the text that it prints at the start of `text`.
-pub fn play_line(l: Listener, line: &[u8], len: usize, text: &mut [u8]) -> Played
+pub fn play_line(l: Listener, line: &[u8], len: usize, text: &mut [u8]) -> Played<Listener>
     ensures value { result ≡ played_in (length text.old) (playing l line.now len) }
     ensures text_after { text.new ≡ laid 0 (playing l line.now len).text text.old }
 {
-    if is_silent(line) {
-        return Played {
-            listener: l,
-            reply: Reply::Silent,
-            len: 0,
-        };
-    }
-    if len > LONGEST {
-        return bad_line(l, text);
-    }
-    play_request(l, line, text)
+    play_line_on::<OnListener>(l, line, len, text)
 }

@@ -1,7 +1,8 @@
 -- When a cookie is right, as an equation with FIPS 197's definition: the listener and the journal share it. And its bytes one by one. Assumes nothing.
+use Rattle.std.specs.Prelude.{Option, None, Some}
 use Prim.Native.Nat.{ℕ}
 use mathlib.Core.Path.{◌≡◌, refl, ap}
-use mathlib.Core.Bool.{true, false, false≢true, or-true, and-false}
+use mathlib.Core.Bool.{true, false, false≢true, or-true}
 use mathlib.Core.List.{List}
 use native.Mathlib.Omega.{arith}
 use lib.ListN.{length, take}
@@ -18,7 +19,7 @@ use Rattle.segment.proofs.Cookie.{syn-options}
 use Rattle.lists.proofs.ByteLists.{bytes_take, bytes_of, each_byte}
 use Rattle.lists.proofs.Bools.{or_false}
 use Rattle.lists.proofs.SameBytes.{same_bytes_eq, same_bytes_refl}
-use Rattle.protocol.specs.Cookie.{Carried, nothing, request, cookie, cookie_under, found, carried_by, right_under, right}
+use Rattle.protocol.specs.Cookie.{Carried, nothing, request, cookie, cookie_under, found, carried_by, right_under, right_before, right}
 use Rattle.protocol.specs.declared.state.Keys.{Keys}
 
 -- a cookie has 8 bytes
@@ -51,7 +52,7 @@ pub right-now : (k : Keys) (b : List ℕ) (o : Carried) → right_under k.presen
 unfolding right
 right-now k b o e = rw e
 
-pub right-before : (k : Keys) (b : List ℕ) (o : Carried) → k.rotated ≡ true → right_under k.previous b o ≡ true → right k b o ≡ true
+pub right-before : (k : Keys) (b : List ℕ) (o : Carried) {w : List ℕ} → k.previous ≡ Some w → right_under w b o ≡ true → right k b o ≡ true
 unfolding right
 right-before k b o r e = rw (r, e) (or-true (right_under k.present b o))
 
@@ -65,11 +66,11 @@ unfolding right_under
 no_cookie w b = (refl, refl)
 
 -- where it is not the present key's, the previous key decides, if there is one
-pub right-alone : (k : Keys) (b : List ℕ) (o : Carried) → right_under k.present b o ≡ false → k.rotated ≡ false → right k b o ≡ false
+pub right-alone : (k : Keys) (b : List ℕ) (o : Carried) → right_under k.present b o ≡ false → k.previous ≡ None → right k b o ≡ false
 unfolding right
 right-alone k b o e r = rw (e, r)
 
-pub right_else : (k : Keys) (b : List ℕ) (o : Carried) → right_under k.present b o ≡ false → k.rotated ≡ true → right k b o ≡ right_under k.previous b o
+pub right_else : (k : Keys) (b : List ℕ) (o : Carried) {w : List ℕ} → right_under k.present b o ≡ false → k.previous ≡ Some w → right k b o ≡ right_under w b o
 unfolding right
 right_else k b o e r = rw (e, r)
 
@@ -80,7 +81,11 @@ wrong_now k b o e = (or_false (right_under k.present b o) _ e).0
 
 pub never_right : (k : Keys) (b : List ℕ) (o : Carried) → ((w : List ℕ) → right_under w b o ≡ false) → right k b o ≡ false
 unfolding right
-never_right k b o n = rw (n k.present, n k.previous) (and-false k.rotated)
+never_right k b o n = rw (n k.present) (go k.previous)
+  where
+    go : (p : Option (List ℕ)) → right_before p b o ≡ false
+    go None = refl
+    go (Some w) = n w
 
 -- the option of a segment, from the options that were found in it
 pub carried-found : (g : Codings) (seg : List ℕ) → carried_by g seg ≡ found (options_of g seg).fast (option_area seg)

@@ -1,4 +1,5 @@
 -- Demand 3: the listener and the journal agree after every list of calls. Assumes nothing.
+use Rattle.std.specs.Prelude.{Err, Ok, Some, option_map}
 use Prim.Native.Nat.{ℕ, zero, suc, ◌+◌, ◌≤◌, ◌<◌, min}
 use mathlib.Core.Path.{◌≡◌, refl, sym, ap, ap₂, ◌∙◌, subst}
 use mathlib.Core.Bool.{Bool, true, false, cond, not, ◌&&◌, ◌||◌, true≢false, false≢true, and_assoc, and-eq-true_iff}
@@ -9,11 +10,9 @@ use lib.Dec.{ltb}
 use lib.Seq.{set-get_or}
 use lib.ListN.{length, get_or, set, take, replicate, length-set, length-replicate, get_or-eq_default}
 use Rattle.cipher.specs.KeyExpansion.{key_expansion}
-use Rattle.segment.specs.Refusal.{refusal, number_of}
+use Rattle.segment.specs.Refusal.{refusal, number_of, Check, all_clear}
 use Rattle.segment.specs.Header.{fields_of, payload_of, kind_of}
 use Rattle.segment.specs.declared.refusal.Refusal.TheVariants.{NoConnection}
-use Rattle.segment.specs.declared.refusal.Check.{Check}
-use Rattle.segment.specs.declared.refusal.Check.TheVariants.{Clear, Refused}
 use Rattle.segment.specs.declared.header.Kind.{Kind}
 use Rattle.segment.specs.declared.header.Kind.TheVariants.{Syn, Rst, Ack, Other}
 use Rattle.lists.proofs.Bools.{or_false}
@@ -27,19 +26,18 @@ use Rattle.endpoint.proofs.Names.{short}
 use Rattle.endpoint.proofs.Blocks.{zero_block}
 use Rattle.lists.proofs.Sums.{sum_zero, some_passes, first_passes, none_passes, All, all_set, all_at, all_replicate, sum_le_all}
 use Rattle.endpoint.proofs.Clear.{Passed, every-check}
-use Rattle.protocol.specs.Cookie.{Carried, carried_by, right_under, right}
+use Rattle.protocol.specs.Cookie.{Carried, carried_by, right_under, right_before, right}
 use Rattle.protocol.specs.Table.{is_live, is_waiting, is_established, is_free, after_reset, free_slot, new_slot, with_status, holds_peer, pending_at, pending_from}
 use Rattle.protocol.specs.Call.{Call, segment, settings, key, abandon, resend, close, sender, time_of, number_of_event, verdict_of, accepted_of, accepted_part, early}
 use Rattle.protocol.specs.View.{known, scan_for, view, view_of}
 use Rattle.protocol.specs.Refusals.{kind_checks, checks, call_check}
 use Rattle.protocol.specs.Step as steps
 use Rattle.protocol.specs.Step.{fresh_listener, start_checks, started_by, start_of, new_event, opening_event, segment_event, done_event, held_until, slot_after, moved, put, segment_after, freed, stored_settings, after, outcome_of, step, pending_number}
-use Rattle.protocol.specs.Journal.{Mark, mark_plain, mark_early, mark_open, mark_held, Entry, PreviousKey, no_key, a_key, Journal, fresh_journal, pending_of, pending_of_address, named, has, kept, only, removed, completed, reset_mark, was_reset, with, amended, right_before, has_right, opens_early, new_mark, opened, at_time, segment_noted, noted, feed, Decision, new_decision, opening_decision, segment_decision, done_decision, journal_decision}
+use Rattle.protocol.specs.Journal.{Mark, mark_plain, mark_early, mark_open, mark_held, Entry, Journal, fresh_journal, pending_of, pending_of_address, named, has, kept, only, removed, completed, reset_mark, was_reset, with, amended, has_right, opens_early, new_mark, opened, at_time, segment_noted, noted, feed, Decision, new_decision, opening_decision, segment_decision, done_decision, journal_decision}
 use Rattle.protocol.specs.Demand3.{segment_of, listener_decision, listener_after, listener_decisions, numbered, journal_after, journal_decisions, address_pending, Demand3}
 use Rattle.protocol.specs.declared.slots.Status.{Status}
 use Rattle.protocol.specs.declared.slots.Status.TheVariants.{Free, SynReceived, SynReceivedEarly, ResetHeld, Established}
 use Rattle.protocol.specs.declared.slots.Slot.{Slot}
-use Rattle.protocol.specs.declared.state.Keys.{Keys}
 use Rattle.protocol.specs.declared.state.Listener.{Listener}
 use Rattle.protocol.specs.declared.outcome.Event.{Event}
 use Rattle.protocol.specs.declared.outcome.Event.TheVariants as events
@@ -55,16 +53,12 @@ pub record Table (f : Family) (t : ℕ) (slots : List Slot) (es : List Entry) : 
   pub match : Settled f t slots es
 
 -- the listener has round keys, the journal the key
-abbrev pub Previous : Keys → PreviousKey → Type 0
-Previous k no_key = k.rotated ≡ false
-Previous k (a_key b) = (k.rotated ≡ true) × (k.previous ≡ key_expansion b)
-
 pub record Agrees (l : Listener) (j : Journal) : Type 0 where
   pub started : l.local.started ≡ true
   pub time : j.time ≡ l.clock
   pub settings : l.settings ≡ stored_settings j.settings
   pub present : l.keys.present ≡ key_expansion j.present
-  pub previous : Previous l.keys j.previous
+  pub previous : l.keys.previous ≡ option_map key_expansion j.previous
   pub table : Table l.local.family l.clock l.slots j.entries
 
 -- after a call with this event
@@ -155,17 +149,13 @@ module _ (l : Listener) (j : Journal) (t : ℕ) (a : Agrees l j) (forward : l.cl
   -- a cookie is right under the round keys exactly if it is under the journal's keys
   right-same : (src seg : List ℕ) → right l.keys (block src) (carried_by j.settings.codings seg) ≡ has_right (at_time t j) src seg
   unfolding right has_right
-  right-same src seg = ap₂ ◌||◌ (ap (λ k. right_under k b o) a.present) (before l.keys j.previous a.previous)
+  right-same src seg = ap₂ ◌||◌ (ap (λ k. right_under k b o) a.present) (ap (λ k. right_before k b o) a.previous)
     where
       b : List ℕ
       b = block src
 
       o : Carried
       o = carried_by j.settings.codings seg
-
-      before : (k : Keys) (was : PreviousKey) → Previous k was → (k.rotated && right_under k.previous b o) ≡ right_before was b o
-      before k no_key e = rw e
-      before k (a_key was) e = rw (e.0, e.1)
 
   early-same : (src seg : List ℕ) → length src ≡ size l.local.family → steps.is_early (view l t (sender src seg)) (block src) seg ≡ opens_early (at_time t j) src seg
   unfolding steps.is_early opens_early
@@ -326,7 +316,7 @@ done l j (settings t g) a q =
     quiet refl (record { started = a.started; time = refl; settings = refl; present = a.present; previous = a.previous; table = table })
 done l j (key t k) a q =
     let table = unchanged l j t a (on-time l t q.1.0) in
-    quiet refl (record { started = a.started; time = refl; settings = a.settings; present = refl; previous = (refl, a.present); table = table })
+    quiet refl (record { started = a.started; time = refl; settings = a.settings; present = refl; previous = ap (λ (w : List ℕ). Some w) a.present; table = table })
 done l j (abandon t b p) a q = quiet refl (released l j t a b p is_waiting refl q)
 done l j (resend t b p out_len) a q = quiet refl (moved_agrees l j t l.slots (at_time t j).entries a (unchanged l j t a (on-time l t q.1.0)))
 done l j (close t b p) a q = quiet refl (released l j t a b p is_established refl q)
@@ -337,11 +327,11 @@ one : (l : Listener) (j : Journal) (c : Call) → Agrees l j → (r : Check) →
     let n = number_of_event o.event in
     Follows c o.listener o.event (feed j c n) (journal_decision j c n)
 unfolding call_check feed journal_decision
-one l j c a Clear e = rw (done-number (view_of l c) c) (done l j c a (every-check (checks (view_of l c) c) e))
-one l j c a (Refused r) e = go (number_of r) refl
+one l j c a (Ok _) e = rw (done-number (view_of l c) c) (done l j c a (every-check (checks (view_of l c) c) e))
+one l j c a (Err r) e = go (number_of r) refl
   where
     go : (n : ℕ) → number_of r ≡ n → Follows c l (events.Refused r) (feed j c n) (journal_decision j c n)
-    go zero z = absurd (let w : ◌≡◌ {A = ℕ} 0 1 = cc (numbers.done_is_0 (Refused r) z) in omega arith)
+    go zero z = absurd (let w : ◌≡◌ {A = ℕ} 0 1 = cc (numbers.done_is_0 (Err r) z) in omega arith)
     go (suc n) z = quiet refl a
 
 pub stays : (l : Listener) (j : Journal) (c : Call) → Agrees l j → Agrees (step l c).listener (feed j c (number_of_event (step l c).event))
@@ -381,20 +371,20 @@ fresh_agrees own port k = record { started = refl; time = refl; settings = refl;
         }
 
 -- a start that is done
-begins : (own : List ℕ) (port : ℕ) (k : List ℕ) → (start_of own port k).check ≡ Clear → Agrees (start_of own port k).listener (fresh_journal own port k)
+begins : (own : List ℕ) (port : ℕ) (k : List ℕ) → (start_of own port k).check ≡ all_clear → Agrees (start_of own port k).listener (fresh_journal own port k)
 unfolding start_of
 begins own port k = go (refusal (start_checks own k))
   where
-    go : (r : Check) → (started_by own port k r).check ≡ Clear → Agrees (started_by own port k r).listener (fresh_journal own port k)
-    go Clear e = fresh_agrees own port k
-    go (Refused r) e = absurd (let z : ◌≡◌ {A = ℕ} 0 1 = cc in omega arith)
+    go : (r : Check) → (started_by own port k r).check ≡ all_clear → Agrees (started_by own port k r).listener (fresh_journal own port k)
+    go (Ok _) e = fresh_agrees own port k
+    go (Err r) e = absurd (let z : ◌≡◌ {A = ℕ} 0 1 = cc in omega arith)
 
 -- and calls after it
-pub agreed : (own : List ℕ) (port : ℕ) (k : List ℕ) (calls : List Call) → (start_of own port k).check ≡ Clear
+pub agreed : (own : List ℕ) (port : ℕ) (k : List ℕ) (calls : List Call) → (start_of own port k).check ≡ all_clear
     → Agrees (listener_after (start_of own port k).listener calls) (journal_after (fresh_journal own port k) (numbered (start_of own port k).listener calls))
 agreed own port k calls e = (all_follow (start_of own port k).listener (fresh_journal own port k) calls (begins own port k e)).0
 
-pub demand3 : (own : List ℕ) (port : ℕ) (k : List ℕ) (calls : List Call) → (start_of own port k).check ≡ Clear → Demand3 own port k calls
+pub demand3 : (own : List ℕ) (port : ℕ) (k : List ℕ) (calls : List Call) → (start_of own port k).check ≡ all_clear → Demand3 own port k calls
 demand3 own port k calls e =
     record {
       pending = same-pending _ _ (agreed own port k calls e);

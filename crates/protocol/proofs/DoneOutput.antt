@@ -1,4 +1,5 @@
 -- The outcome of a done segment: its kind, and how many bytes were written. Assumes nothing.
+use Rattle.segment.specs.Refusal.{all_clear}
 use Prim.Native.Nat.{ℕ}
 use mathlib.Core.Path.{◌≡◌, refl}
 use mathlib.Core.Bool.{Bool, true, false}
@@ -8,7 +9,6 @@ use lib.Seq.{length-take-le}
 use borrow.Author.Tests.{ltb-false, eqb-true, not-false}
 use Rattle.segment.specs.Header.{fields_of, kind_of}
 use Rattle.segment.specs.Checksum.{one_family}
-use Rattle.segment.specs.declared.refusal.Check.TheVariants.{Clear}
 use Rattle.segment.specs.declared.options.Coding.{Coding}
 use Rattle.segment.specs.declared.options.Coding.TheVariants.{New}
 use Rattle.segment.specs.declared.header.Kind.{Kind}
@@ -39,11 +39,11 @@ module _ (v : View) (b seg : List ℕ) where
   kind_is Rst = refl
   kind_is Other = refl
 
-pub all_passed : (l : Listener) (c : Call) → call_check l c ≡ Clear → Passed (checks (view_of l c) c)
+pub all_passed : (l : Listener) (c : Call) → call_check l c ≡ all_clear → Passed (checks (view_of l c) c)
 unfolding call_check
 all_passed l c e = every-check (checks (view_of l c) c) e
 
-module _ (l : Listener) (t : ℕ) (src seg : List ℕ) (iss out_len : ℕ) (clear : call_check l (segment t src seg iss out_len) ≡ Clear) where
+module _ (l : Listener) (t : ℕ) (src seg : List ℕ) (iss out_len : ℕ) (clear : call_check l (segment t src seg iss out_len) ≡ all_clear) where
   abbrev this : Call
   this = segment t src seg iss out_len
 
@@ -71,7 +71,7 @@ module _ (l : Listener) (t : ℕ) (src seg : List ℕ) (iss out_len : ℕ) (clea
 own-family : (f : Family) (own a : List ℕ) → length own ≡ 16 → is_address f a ≡ true → one_family (take (size f) own) a ≡ true
 own-family f own a h e = one_size f (take (size f) own) a (length-take-le (size f) own (own-most f own refl h)) (eqb-true (length a) (size f) e)
 
-pub resend-written : (l : Listener) (t : ℕ) (a : List ℕ) (p out_len : ℕ) → length l.local.own ≡ 16 → call_check l (resend t a p out_len) ≡ Clear
+pub resend-written : (l : Listener) (t : ℕ) (a : List ℕ) (p out_len : ℕ) → length l.local.own ≡ 16 → call_check l (resend t a p out_len) ≡ all_clear
     → (step l (resend t a p out_len)).written ≡ 24
 resend-written l t a p out_len h clear =
     let q = all_passed l (resend t a p out_len) clear in

@@ -1,16 +1,16 @@
 -- No call changes a listener's own address, port and family. Assumes nothing.
+use Rattle.std.specs.Prelude.{Err, Ok}
 use Prim.Native.Nat.{ℕ}
 use mathlib.Core.Path.{◌≡◌, refl}
 use Rattle.segment.specs.Header.{fields_of}
-use Rattle.segment.specs.declared.refusal.Check.{Check}
-use Rattle.segment.specs.declared.refusal.Check.TheVariants.{Clear, Refused}
+use Rattle.segment.specs.Refusal.{Check}
 use Rattle.endpoint.specs.Address.{block}
 use Rattle.protocol.specs.Call.{Call, segment, settings, key, abandon, resend, close, sender}
 use Rattle.protocol.specs.View.{scan_for, view}
 use Rattle.protocol.specs.Refusals.{call_check}
 use Rattle.protocol.specs.Step.{done_event, held_until, slot_after, segment_after, after, outcome_of, step}
 use Rattle.protocol.specs.declared.slots.Slot.{Slot}
-use Rattle.protocol.specs.declared.slots.Scan.{Scan}
+use Rattle.protocol.specs.Table.{Scan}
 use Rattle.protocol.specs.declared.state.Listener.{Listener}
 use Rattle.protocol.specs.declared.outcome.Event.{Event}
 use Rattle.protocol.specs.declared.outcome.Event.TheVariants as events
@@ -42,5 +42,5 @@ unfolding step
 step_local l c = go (call_check l c)
   where
     go : (k : Check) → (outcome_of l c k).listener.local ≡ l.local
-    go Clear = after_local l c
-    go (Refused r) = refl
+    go (Ok _) = after_local l c
+    go (Err r) = refl

@@ -1,4 +1,5 @@
 -- A listener that was never started, a start that is refused, and calls that are refused. Assumes nothing.
+use Rattle.std.specs.Prelude.{Err, Ok}
 use Prim.Native.Nat.{ℕ}
 use mathlib.Core.Path.{◌≡◌, refl, sym, ap, ◌∙◌}
 use mathlib.Core.Bool.{Bool, true, false, not, ◌||◌, or-true}
@@ -9,8 +10,7 @@ use Rattle.segment.specs.Remarks.{no_remarks}
 use Rattle.segment.specs.Refusal.{applies, refusal}
 use Rattle.segment.specs.declared.refusal.Refusal.{Refusal}
 use Rattle.segment.specs.declared.refusal.Refusal.TheVariants.{NotStarted, CutRecord, BadCapture}
-use Rattle.segment.specs.declared.refusal.Check.{Check}
-use Rattle.segment.specs.declared.refusal.Check.TheVariants.{Clear, Refused}
+use Rattle.segment.specs.Refusal.{Check}
 use Rattle.segment.specs.declared.header.Header.{Header}
 use Rattle.segment.specs.declared.header.Kind.{Kind}
 use Rattle.segment.specs.declared.header.Kind.TheVariants.{Syn, Rst, Ack, Other}
@@ -59,14 +59,14 @@ never_started_lem l c e =
     (rw (none.0, none.1, first), rw (none.0, none.1, first))
 
 -- and such is the listener of a start that is refused
-pub refused_start : (own : List ℕ) (port : ℕ) (k : List ℕ) (r : Refusal) → (start_of own port k).check ≡ Refused r
+pub refused_start : (own : List ℕ) (port : ℕ) (k : List ℕ) (r : Refusal) → (start_of own port k).check ≡ Err r
     → (start_of own port k).listener.local.started ≡ false
 unfolding start_of
 refused_start own port k r e = go (refusal (start_checks own k)) e
   where
-    go : (c : Check) → (started_by own port k c).check ≡ Refused r → (started_by own port k c).listener.local.started ≡ false
-    go Clear q = absurd (let z : ◌≡◌ {A = ℕ} 0 1 = cc in omega arith)
-    go (Refused s) q = refl
+    go : (c : Check) → (started_by own port k c).check ≡ Err r → (started_by own port k c).listener.local.started ≡ false
+    go (Ok _) q = absurd (let z : ◌≡◌ {A = ℕ} 0 1 = cc in omega arith)
+    go (Err s) q = refl
 
 -- a call that is refused changes nothing, writes nothing and remarks nothing
 pub refused_same : (l : Listener) (c : Call) (r : Refusal) → (step l c).event ≡ events.Refused r
@@ -76,7 +76,7 @@ refused_same l c r e = go (call_check l c) e
   where
     go : (k : Check) → (outcome_of l c k).event ≡ events.Refused r
         → ((outcome_of l c k).listener ≡ l) × ((outcome_of l c k).written ≡ 0) × ((outcome_of l c k).remarks ≡ no_remarks) × (output_if (view_of l c) c k ≡ [])
-    go Clear q =
-        let done = done_is_0 (Refused r) (ap number_of_event (sym q) ∙ done-number (view_of l c) c) in
+    go (Ok _) q =
+        let done = done_is_0 (Err r) (ap number_of_event (sym q) ∙ done-number (view_of l c) c) in
         absurd (let z : ◌≡◌ {A = ℕ} 0 1 = cc in omega arith)
-    go (Refused s) q = (refl, refl, refl, refl)
+    go (Err s) q = (refl, refl, refl, refl)

@@ -7,13 +7,12 @@ use native.Mathlib.Omega.{arith}
 use borrow.Author.Tests.{ltb-true, ltb-false, lt-ltb, not-true, not-false}
 use lib.Dec.{ltb}
 use lib.ListN.{length, get_or, set, get_or-eq_default}
-use Rattle.segment.specs.Refusal.{order, Checks, refusal}
+use Rattle.segment.specs.Refusal.{order, Checks, refusal, all_clear}
 use Rattle.segment.specs.Header.{fields_of, kind_of}
 use Rattle.segment.specs.Remarks.{remarks_of}
 use Rattle.lists.proofs.Bools.{and_true}
 use Rattle.segment.proofs.NumberOf.{none-applies}
 use Rattle.segment.specs.declared.refusal.Refusal.TheVariants.{TableFull}
-use Rattle.segment.specs.declared.refusal.Check.TheVariants.{Clear}
 use Rattle.segment.specs.declared.header.Kind.TheVariants.{Syn}
 use Rattle.lists.specs.Lists.{bit, tally, first_index}
 use Rattle.endpoint.specs.Address.{Peer, block}
@@ -131,12 +130,12 @@ module _ (l : Listener) (t : ℕ) (src seg : List ℕ) (iss out_len : ℕ) (syn 
   checked_new = rw (syn, new)
 
   -- it is clear where the wire checks are and a place is free
-  pub new-clear : refusal (wire_checks l.local (is_untimely l.clock t) src seg out_len) ≡ Clear → free_place t l.slots < 64
-      → call_check l (segment t src seg iss out_len) ≡ Clear
+  pub new-clear : refusal (wire_checks l.local (is_untimely l.clock t) src seg out_len) ≡ all_clear → free_place t l.slots < 64
+      → call_check l (segment t src seg iss out_len) ≡ all_clear
   new-clear e h = checked_new ∙ rw (lt-ltb (free_place t l.slots) 64 h) e
 
   -- and where it is clear, these hold: 13 and 8 by their places in the order
-  pub clear-new : call_check l (segment t src seg iss out_len) ≡ Clear → Admitted l t
+  pub clear-new : call_check l (segment t src seg iss out_len) ≡ all_clear → Admitted l t
   clear-new e =
       let n = none-applies order (new_checks l t src seg out_len) (sym checked_new ∙ e) in
       record {
@@ -145,7 +144,7 @@ module _ (l : Listener) (t : ℕ) (src seg : List ℕ) (iss out_len : ℕ) (syn 
       }
 
   -- its event
-  pub step-new : (early : Bool) → is_early (view l t (sender src seg)) (block src) seg ≡ early → call_check l (segment t src seg iss out_len) ≡ Clear
+  pub step-new : (early : Bool) → is_early (view l t (sender src seg)) (block src) seg ≡ early → call_check l (segment t src seg iss out_len) ≡ all_clear
       → step l (segment t src seg iss out_len)
       ≡ outcome (put l t (free_place t l.slots) (slot_for early src seg iss (accepts l.settings seg))) (new_event early (accepts l.settings seg))
       (length (syn_ack_to (view l t (sender src seg)) src (slot_for early src seg iss (accepts l.settings seg))

@@ -1,24 +1,22 @@
 -- The checks of a call one after the other, and what `step` makes of them. Assumes nothing.
-use Prim.Native.Nat.{ℕ, ◌≤◌, ◌<◌}
-use mathlib.Core.Path.{◌≡◌, ap, ◌∙◌}
+use Rattle.std.specs.Prelude.{Err}
+use Prim.Native.Nat.{ℕ}
+use mathlib.Core.Path.{◌≡◌, ap}
 use mathlib.Core.Bool.{Bool, true, false, cond, not}
 use mathlib.Core.List.{List, [], ◌∷◌, ◌++◌}
 use lib.Dec.{ltb, eqb}
 use lib.ListN.{length}
-use borrow.Author.Tests.{lt-ltb, le-ltb}
-use Rattle.segment.specs.Refusal.{refusal}
+use Rattle.segment.specs.Refusal.{refusal, Check, all_clear}
 use Rattle.segment.specs.Header.{malformed, fields_of, kind_of}
 use Rattle.segment.specs.Remarks.{no_remarks}
 use Rattle.segment.specs.Checksum.{checksum_right}
 use Rattle.segment.specs.declared.refusal.Refusal.{Refusal}
 use Rattle.segment.specs.declared.refusal.Refusal.TheVariants.{Format, Checksum, Port, NoConnection, Output, Range}
-use Rattle.segment.specs.declared.refusal.Check.{Check}
-use Rattle.segment.specs.declared.refusal.Check.TheVariants.{Clear, Refused}
 use Rattle.segment.specs.declared.header.Header.{Header}
 use Rattle.segment.specs.declared.header.Kind.{Kind}
 use Rattle.segment.specs.declared.header.Kind.TheVariants.{Syn, Rst, Ack, Other}
 use Rattle.endpoint.specs.Checks.{is_untimely, timely, addressed}
-use Rattle.endpoint.proofs.Chain.{and_then, chain-then, stopped, passed, only, timed, named}
+use Rattle.endpoint.proofs.Chain.{and_then, chain-then, only, timed, named}
 use Rattle.protocol.specs.Call.{Call, segment, settings, key, resend, sender}
 use Rattle.protocol.specs.View.{own_address, view, view_of}
 use Rattle.protocol.specs.Refusals.{in_range, is_key, is_releasable, release_of, output_checks, kind_checks, wire_checks, call_check}
@@ -33,35 +31,15 @@ use Rattle.protocol.specs.declared.outcome.Event.TheVariants as events
 -- The checks after those of a name: the output, a segment's shape, checksum and port, and its kind
 
 module _ (h : LocalEndpoint) (untimely : Bool) (a : List ℕ) (out_len : ℕ) where
-  abbrev Named : Check
-  Named = refusal (timely h.started untimely ++ addressed h.family a)
-
   abbrev OutputCheck : Check
   OutputCheck = refusal (timely h.started untimely ++ addressed h.family a ++ output_checks out_len)
 
   abbrev outed : List (Bool × Refusal)
   outed = named h.started untimely h.family a ++ ((ltb out_len 36, Output) ∷ [])
 
-  output-check : OutputCheck ≡ and_then Named (only (ltb out_len 36) Output)
-  output-check = chain-then (named h.started untimely h.family a) _
-
-  pub output-stopped : {r : Refusal} → Named ≡ Refused r → OutputCheck ≡ Refused r
-  output-stopped e = stopped _ _ _ output-check e
-
-  module _ (first : Named ≡ Clear) where
-    pub output_enough : 36 ≤ out_len → OutputCheck ≡ Clear
-    output_enough y =
-        let at : only (ltb out_len 36) Output ≡ Clear = rw (le-ltb _ _ y) in
-        passed _ _ _ output-check first ∙ at
-
-    pub output-short : out_len < 36 → OutputCheck ≡ Refused Output
-    output-short y =
-        let at : only (ltb out_len 36) Output ≡ Refused Output = rw (lt-ltb _ _ y) in
-        passed _ _ _ output-check first ∙ at
-
   module _ (seg : List ℕ) where
     abbrev pub wire : Check
-    wire = cond (malformed seg) (Refused Format) (cond (not (checksum_right a (own_address h) seg)) (Refused Checksum) (only (not (eqb (fields_of seg).dest h.port)) Port))
+    wire = cond (malformed seg) (Err Format) (cond (not (checksum_right a (own_address h) seg)) (Err Checksum) (only (not (eqb (fields_of seg).dest h.port)) Port))
 
     pub wire-check : refusal (wire_checks h untimely a seg out_len) ≡ and_then OutputCheck wire
     wire-check = chain-then outed _
@@ -110,19 +88,19 @@ module _ (l : Listener) (t : ℕ) where
 -- A call is refused or done
 
 module _ (l : Listener) (c : Call) where
-  pub step_refused : {r : Refusal} → call_check l c ≡ Refused r → step l c ≡ outcome l (events.Refused r) 0 no_remarks
+  pub step_refused : {r : Refusal} → call_check l c ≡ Err r → step l c ≡ outcome l (events.Refused r) 0 no_remarks
   unfolding step
   step_refused e = ap (outcome_of l c) e
 
-  pub step-done : call_check l c ≡ Clear
+  pub step-done : call_check l c ≡ all_clear
       → step l c ≡ outcome (after l c) (done_event (view_of l c) c) (length (done_output (view_of l c) c)) (done_remarks (view_of l c) c)
   unfolding step
   step-done e = ap (outcome_of l c) e
 
-  pub output_refused : {r : Refusal} → call_check l c ≡ Refused r → output_of l c ≡ []
+  pub output_refused : {r : Refusal} → call_check l c ≡ Err r → output_of l c ≡ []
   unfolding output_of
   output_refused e = ap (output_if (view_of l c) c) e
 
-  pub output-done : call_check l c ≡ Clear → output_of l c ≡ done_output (view_of l c) c
+  pub output-done : call_check l c ≡ all_clear → output_of l c ≡ done_output (view_of l c) c
   unfolding output_of
   output-done e = ap (output_if (view_of l c) c) e

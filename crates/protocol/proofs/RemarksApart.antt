@@ -1,4 +1,5 @@
 -- What a segment comes to does not depend on what is remarked on its options. Assumes nothing.
+use Rattle.std.specs.Prelude.{Err, Ok}
 use Prim.Native.Nat.{ℕ}
 use mathlib.Core.Path.{◌≡◌, refl, ap, ap₂, sym, ◌∙◌}
 use mathlib.Core.Bool.{Bool, true, false, cond, not, ◌&&◌}
@@ -9,8 +10,7 @@ use Rattle.segment.specs.Refusal.{Checks, refusal}
 use Rattle.segment.specs.Checksum.{checksum_right}
 use Rattle.segment.specs.declared.refusal.Refusal.TheVariants.{Format, Checksum, Port}
 use Rattle.segment.specs.Header.{malformed, fields_of, payload_of, kind_of}
-use Rattle.segment.specs.declared.refusal.Check.{Check}
-use Rattle.segment.specs.declared.refusal.Check.TheVariants.{Clear, Refused}
+use Rattle.segment.specs.Refusal.{Check}
 use Rattle.segment.specs.declared.header.Header.{Header}
 use Rattle.segment.specs.declared.header.Kind.{Kind}
 use Rattle.segment.specs.declared.header.Kind.TheVariants.{Syn, Rst, Ack, Other}
@@ -147,8 +147,8 @@ module _ (l : Listener) (t : ℕ) (src : List ℕ) (iss out_len : ℕ) where
         × (((outcome_of l (this seg) k).event ≡ (outcome_of l (this other) k).event)
         × (((outcome_of l (this seg) k).written ≡ (outcome_of l (this other) k).written)
         × (output_if (view_of l (this seg)) (this seg) k ≡ output_if (view_of l (this other)) (this other) k)))
-    outcome-alike Clear = (after-alike, (done-alike, (ap length output-alike, output-alike)))
-    outcome-alike (Refused r) = (refl, (refl, (refl, refl)))
+    outcome-alike (Ok _) = (after-alike, (done-alike, (ap length output-alike, output-alike)))
+    outcome-alike (Err r) = (refl, (refl, (refl, refl)))
 
     event-same : (step l (this seg)).event ≡ (step l (this other)).event
     unfolding step

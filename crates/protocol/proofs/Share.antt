@@ -1,4 +1,5 @@
 -- Document 02, Item 8, proved: an opening at the share, and the bound over every list of calls. Assumes nothing.
+use Rattle.std.specs.Prelude.{Err, Ok}
 use Prim.Native.Nat.{ℕ, ◌+◌, ◌≤◌, ◌<◌, max}
 use mathlib.Core.Path.{◌≡◌, refl, sym, ap, ◌∙◌, subst}
 use mathlib.Core.Bool.{Bool, true, false, not, ◌&&◌, ◌||◌, and-false, true≢false}
@@ -13,8 +14,7 @@ use Rattle.lists.proofs.Bools.{and_true}
 use Rattle.lists.proofs.SameBytes.{same_bytes_eq}
 use Rattle.lists.proofs.Sums.{bit-most, sum_le, sum-set, sum-set-most, first_passes}
 use Rattle.segment.specs.Header.{fields_of, kind_of}
-use Rattle.segment.specs.declared.refusal.Check.{Check}
-use Rattle.segment.specs.declared.refusal.Check.TheVariants.{Clear, Refused}
+use Rattle.segment.specs.Refusal.{Check, all_clear}
 use Rattle.segment.specs.declared.header.Kind.{Kind}
 use Rattle.segment.specs.declared.header.Kind.TheVariants.{Syn, Rst, Ack, Other}
 use Rattle.endpoint.specs.Address.{Peer, block}
@@ -170,15 +170,15 @@ module _ (b : List ℕ) where
     timed (close t a p) q = on-time l t q.1.0
 
     -- A call, from its listener's clock on
-    step-most : (share : ℕ) (c : Call) → (call_check l c ≡ Clear → (settings_at l (time_of c)).share ≡ share) → number (step l c).listener ≤ max share (number l)
+    step-most : (share : ℕ) (c : Call) → (call_check l c ≡ all_clear → (settings_at l (time_of c)).share ≡ share) → number (step l c).listener ≤ max share (number l)
     unfolding step call_check
     step-most share c under = go (call_check l c) refl
       where
         go : (r : Check) → call_check l c ≡ r → number (outcome_of l c r).listener ≤ max share (number l)
-        go Clear e =
+        go (Ok _) e =
             let q = every-check (checks (view_of l c) c) e in
             omega (arith, under e, done c q, sum_le (weight (time_of c)) (weight l.clock) (from_earlier l.clock (time_of c) (timed c q) b) l.slots)
-        go (Refused r) e = omega arith
+        go (Err r) e = omega arith
 
 -- Lists of calls
 bounded : (share m : ℕ) (l : Listener) (j : Journal) (calls : List Call) (a : List ℕ) → Agrees l j → Under share l calls → address_pending l a ≤ max share m
@@ -188,7 +188,7 @@ bounded share m l j (c ∷ cs) a g u h =
     let first : address_pending (step l c).listener a ≤ max share m = omega (arith, h, step-most (block a) l g.table.long share c u.0) in
     (first, bounded share m (step l c).listener _ cs a (stays l j c g) u.1 first)
 
-pub share_bound : (own : List ℕ) (port : ℕ) (k : List ℕ) (before : List Call) (share : ℕ) (calls : List Call) → (start_of own port k).check ≡ Clear
+pub share_bound : (own : List ℕ) (port : ℕ) (k : List ℕ) (before : List Call) (share : ℕ) (calls : List Call) → (start_of own port k).check ≡ all_clear
     → ShareBound own port k before share calls
 share_bound own port k before share calls e u a =
     let l = listener_after (start_of own port k).listener before in

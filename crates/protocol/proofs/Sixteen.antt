@@ -1,14 +1,14 @@
 -- Document 01, "The table of sixteen", proved: rows 1 to 12 and 16 from the segment crate's, and the three that speak of a call. Assumes nothing.
+use Rattle.std.specs.Prelude.{Err}
 use Prim.Native.Nat.{ℕ, ◌+◌, ◌≤◌}
 use mathlib.Core.Path.{◌≡◌, refl, ap, ◌∙◌}
 use mathlib.Core.Bool.{Bool, true, false, cond, not, ◌&&◌, and-false}
 use mathlib.Core.List.{List}
 use native.Mathlib.Omega.{arith}
 use borrow.Author.Tests.{le-ltb, eq-eqb}
-use Rattle.segment.specs.Refusal.{refusal}
+use Rattle.segment.specs.Refusal.{refusal, all_clear}
 use Rattle.segment.specs.Sequence.{in_window}
 use Rattle.segment.specs.declared.refusal.Refusal.TheVariants.{Sequence}
-use Rattle.segment.specs.declared.refusal.Check.TheVariants.{Clear, Refused}
 use Rattle.segment.specs.declared.header.Header.{Header}
 use Rattle.segment.specs.declared.header.Kind.TheVariants.{Ack}
 use Rattle.segment.proofs.Sixteen.{row1, row2, row3, row4, row5, row6, row7, row8, row9, row10, row11, row12, row16}
@@ -51,11 +51,11 @@ module _ (l : Listener) (t : ℕ) (src seg : List ℕ) (iss out_len : ℕ) (o : 
 
 -- a completion where 5 is expected is admitted by its sequence number alone
 five : (v : View) (h : Header) (n : ℕ) (inside : Bool) → CompletesFive v h → h.seq ≡ n → in_window 5 n ≡ inside
-    → refusal (kind_checks v h Ack) ≡ cond inside Clear (Refused Sequence)
+    → refusal (kind_checks v h Ack) ≡ cond inside all_clear (Err Sequence)
 unfolding completes
 five v h n inside c s w = rw (c.waits, c.five, s, w, eq-eqb _ _ c.acknowledges) (go inside)
   where
-    go : (b : Bool) → cond (not (b && true)) (Refused Sequence) Clear ≡ cond b Clear (Refused Sequence)
+    go : (b : Bool) → cond (not (b && true)) (Err Sequence) all_clear ≡ cond b all_clear (Err Sequence)
     go true = refl
     go false = refl
 

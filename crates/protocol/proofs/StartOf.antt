@@ -1,4 +1,6 @@
 -- A start, refused or done, and the accepted part of a segment. Assumes nothing.
+use Rattle.std.specs.Prelude.{Err}
+use Rattle.segment.specs.Refusal.{all_clear}
 use Prim.Native.Nat.{ℕ, ◌≤◌, ◌<◌}
 use mathlib.Core.Path.{◌≡◌, sym}
 use mathlib.Core.Bool.{true, false}
@@ -7,7 +9,6 @@ use lib.ListN.{length, take}
 use borrow.Author.Tests.{lt-ltb, le-ltb, eq-eqb, ne_eqb}
 use Rattle.segment.specs.Header.{payload_of}
 use Rattle.segment.specs.declared.refusal.Refusal.TheVariants.{Address, Range}
-use Rattle.segment.specs.declared.refusal.Check.TheVariants.{Clear, Refused}
 use Rattle.endpoint.specs.Address.{is_size}
 use Rattle.protocol.specs.Call.{accepted_of, accepted_part}
 use Rattle.protocol.specs.Step.{fresh_listener, never_started, start_of}
@@ -16,15 +17,15 @@ use Rattle.protocol.specs.declared.outcome.Started.{Started}
 
 -- a start
 module _ (own : List ℕ) (port : ℕ) (k : List ℕ) where
-  pub start-address : is_size (length own) ≡ false → ◌≡◌ {A = Started} (record { listener = never_started; check = Refused Address }) (start_of own port k)
+  pub start-address : is_size (length own) ≡ false → ◌≡◌ {A = Started} (record { listener = never_started; check = Err Address }) (start_of own port k)
   unfolding start_of
   start-address a = rw a
 
-  pub start-key : is_size (length own) ≡ true → (length k ≡ 16 → ⊥) → ◌≡◌ {A = Started} (record { listener = never_started; check = Refused Range }) (start_of own port k)
+  pub start-key : is_size (length own) ≡ true → (length k ≡ 16 → ⊥) → ◌≡◌ {A = Started} (record { listener = never_started; check = Err Range }) (start_of own port k)
   unfolding start_of
   start-key a b = rw (a, ne_eqb _ _ b)
 
-  pub start-done : is_size (length own) ≡ true → length k ≡ 16 → ◌≡◌ {A = Started} (record { listener = fresh_listener own port k; check = Clear }) (start_of own port k)
+  pub start-done : is_size (length own) ≡ true → length k ≡ 16 → ◌≡◌ {A = Started} (record { listener = fresh_listener own port k; check = all_clear }) (start_of own port k)
   unfolding start_of
   start-done a b = rw (a, eq-eqb _ _ b)
 

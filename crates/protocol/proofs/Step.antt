@@ -1,4 +1,5 @@
 -- The outcome of each call, refused and done, from what its checks come to. Assumes nothing.
+use Rattle.std.specs.Prelude.{Err}
 use Prim.Native.Nat.{ℕ, ◌≤◌}
 use mathlib.Core.Path.{◌≡◌, refl, sym, ap, ◌∙◌, ap₂}
 use mathlib.Core.Bool.{Bool, true, false, cond, not, false≢true}
@@ -6,15 +7,13 @@ use mathlib.Core.List.{List, [], ◌++◌}
 use lib.Dec.{leb}
 use lib.ListN.{length}
 use borrow.Author.Tests.{eq-eqb, ne_eqb, leb-true, not-false}
-use Rattle.segment.specs.Refusal.{refusal}
+use Rattle.segment.specs.Refusal.{refusal, Check, all_clear}
 use Rattle.segment.specs.Header.{malformed, fields_of, kind_of}
 use Rattle.segment.specs.Remarks.{no_remarks, remarks_of}
 use Rattle.segment.specs.Write.{syn_ack_bytes}
 use Rattle.lists.specs.Bytes.{overwrite}
 use Rattle.segment.specs.declared.refusal.Refusal.{Refusal}
 use Rattle.segment.specs.declared.refusal.Refusal.TheVariants.{NoConnection, Range}
-use Rattle.segment.specs.declared.refusal.Check.{Check}
-use Rattle.segment.specs.declared.refusal.Check.TheVariants.{Clear, Refused}
 use Rattle.segment.specs.declared.options.Coding.{Coding}
 use Rattle.segment.specs.declared.options.Coding.TheVariants.{New}
 use Rattle.segment.specs.declared.options.Remarks.{Remarks}
@@ -40,7 +39,7 @@ use Rattle.protocol.specs.declared.outcome.Event.{Event}
 use Rattle.protocol.specs.declared.outcome.Event.TheVariants as events
 use Rattle.protocol.specs.declared.outcome.Outcome.{Outcome}
 use Rattle.protocol.specs.declared.slots.Slot.{Slot}
-use Rattle.protocol.specs.declared.slots.Scan.{Scan}
+use Rattle.protocol.specs.Table.{Scan}
 use Rattle.protocol.proofs.Refusals.{checked_settings, checked_key, checked_release, checked_resend, checked_segment, step_refused, step-done, output_refused, output-done}
 
 abbrev pub refused_with : Listener → Refusal → Outcome
@@ -63,39 +62,39 @@ module _ (l : Listener) (t : ℕ) where
   -- Settings
 
   module _ (g : Settings) where
-    pub settings-stopped : {r : Refusal} → Timely ≡ Refused r → step l (settings t g) ≡ refused_with l r
+    pub settings-stopped : {r : Refusal} → Timely ≡ Err r → step l (settings t g) ≡ refused_with l r
     settings-stopped e = step_refused l (settings t g) (stopped _ _ _ (checked_settings l t g) e)
 
-    module _ (first : Timely ≡ Clear) where
+    module _ (first : Timely ≡ all_clear) where
       pub settings_bad : in_range g ≡ false → step l (settings t g) ≡ refused_with l Range
       settings_bad e =
-          let at : cond (not (in_range g)) (Refused Range) Clear ≡ Refused Range = rw e in
+          let at : cond (not (in_range g)) (Err Range) all_clear ≡ Err Range = rw e in
           step_refused l (settings t g) (passed _ _ _ (checked_settings l t g) first ∙ at)
 
       pub settings-done : in_range g ≡ true
           → step l (settings t g) ≡ done_with (record { slots = l.slots; keys = l.keys; local = l.local; settings = stored_settings g; clock = t })
       unfolding after
       settings-done e =
-          let at : cond (not (in_range g)) (Refused Range) Clear ≡ Clear = rw e in
+          let at : cond (not (in_range g)) (Err Range) all_clear ≡ all_clear = rw e in
           step-done l (settings t g) (passed _ _ _ (checked_settings l t g) first ∙ at)
 
   -- Keys
 
   module _ (k : List ℕ) where
-    pub key-stopped : {r : Refusal} → Timely ≡ Refused r → step l (key t k) ≡ refused_with l r
+    pub key-stopped : {r : Refusal} → Timely ≡ Err r → step l (key t k) ≡ refused_with l r
     key-stopped e = step_refused l (key t k) (stopped _ _ _ (checked_key l t k) e)
 
-    module _ (first : Timely ≡ Clear) where
+    module _ (first : Timely ≡ all_clear) where
       pub key_bad : (length k ≡ 16 → ⊥) → step l (key t k) ≡ refused_with l Range
       key_bad e =
-          let at : cond (not (is_key k)) (Refused Range) Clear ≡ Refused Range = rw (ne_eqb _ _ e) in
+          let at : cond (not (is_key k)) (Err Range) all_clear ≡ Err Range = rw (ne_eqb _ _ e) in
           step_refused l (key t k) (passed _ _ _ (checked_key l t k) first ∙ at)
 
       pub key-done : length k ≡ 16
           → step l (key t k) ≡ done_with (record { slots = l.slots; keys = with_key l.keys k; local = l.local; settings = l.settings; clock = t })
       unfolding after
       key-done e =
-          let at : cond (not (is_key k)) (Refused Range) Clear ≡ Clear = rw (eq-eqb _ _ e) in
+          let at : cond (not (is_key k)) (Err Range) all_clear ≡ all_clear = rw (eq-eqb _ _ e) in
           step-done l (key t k) (passed _ _ _ (checked_key l t k) first ∙ at)
 
   -- Calls by name
@@ -108,22 +107,22 @@ module _ (l : Listener) (t : ℕ) where
     peer = record { address = a; port = p }
 
     module _ (e : Bool) where
-      pub release_stopped : {r : Refusal} → Named ≡ Refused r → step l (release_of e t a p) ≡ refused_with l r
+      pub release_stopped : {r : Refusal} → Named ≡ Err r → step l (release_of e t a p) ≡ refused_with l r
       release_stopped q = step_refused l (release_of e t a p) (stopped _ _ _ (checked_release l t e a p) q)
 
-      module _ (first : Named ≡ Clear) where
+      module _ (first : Named ≡ all_clear) where
         pub release_none : is_releasable e (view l t peer).slot.status ≡ false → step l (release_of e t a p) ≡ refused_with l NoConnection
         release_none q =
-            let at : cond (not (is_releasable e (view l t peer).slot.status)) (Refused NoConnection) Clear ≡ Refused NoConnection = rw q in
+            let at : cond (not (is_releasable e (view l t peer).slot.status)) (Err NoConnection) all_clear ≡ Err NoConnection = rw q in
             step_refused l (release_of e t a p) (passed _ _ _ (checked_release l t e a p) first ∙ at)
 
         pub release_done : is_releasable e (view l t peer).slot.status ≡ true → step l (release_of e t a p) ≡ done_with (freed l t peer)
         unfolding after
         release_done q =
-            let at : cond (not (is_releasable e (view l t peer).slot.status)) (Refused NoConnection) Clear ≡ Clear = rw q in
+            let at : cond (not (is_releasable e (view l t peer).slot.status)) (Err NoConnection) all_clear ≡ all_clear = rw q in
             go e (passed _ _ _ (checked_release l t e a p) first ∙ at)
           where
-            go : (x : Bool) → call_check l (release_of x t a p) ≡ Clear → step l (release_of x t a p) ≡ done_with (freed l t peer)
+            go : (x : Bool) → call_check l (release_of x t a p) ≡ all_clear → step l (release_of x t a p) ≡ done_with (freed l t peer)
             go true j = step-done l (close t a p) j
             go false j = step-done l (abandon t a p) j
 
@@ -134,16 +133,16 @@ module _ (l : Listener) (t : ℕ) where
       abbrev v : View
       v = view l t peer
 
-      pub resend-stopped : {r : Refusal} → OutputCheck ≡ Refused r → (step l (resend t a p out_len) ≡ refused_with l r) × (output_of l (resend t a p out_len) ≡ [])
+      pub resend-stopped : {r : Refusal} → OutputCheck ≡ Err r → (step l (resend t a p out_len) ≡ refused_with l r) × (output_of l (resend t a p out_len) ≡ [])
       resend-stopped q =
           let j = stopped _ _ _ (checked_resend l t a p out_len) q in
           (step_refused l (resend t a p out_len) j, output_refused l (resend t a p out_len) j)
 
-      module _ (first : OutputCheck ≡ Clear) where
+      module _ (first : OutputCheck ≡ all_clear) where
         pub resend-none : is_waiting v.slot.status ≡ false
             → (step l (resend t a p out_len) ≡ refused_with l NoConnection) × (output_of l (resend t a p out_len) ≡ [])
         resend-none q =
-            let at : cond (not (is_waiting v.slot.status)) (Refused NoConnection) Clear ≡ Refused NoConnection = rw q in
+            let at : cond (not (is_waiting v.slot.status)) (Err NoConnection) all_clear ≡ Err NoConnection = rw q in
             let j = passed _ _ _ (checked_resend l t a p out_len) first ∙ at in
             (step_refused l (resend t a p out_len) j, output_refused l (resend t a p out_len) j)
 
@@ -152,7 +151,7 @@ module _ (l : Listener) (t : ℕ) where
             × (output_of l (resend t a p out_len) ≡ syn_ack_to v a v.slot false New out_len)
         unfolding after
         resend-done q =
-            let at : cond (not (is_waiting v.slot.status)) (Refused NoConnection) Clear ≡ Clear = rw q in
+            let at : cond (not (is_waiting v.slot.status)) (Err NoConnection) all_clear ≡ all_clear = rw q in
             let j = passed _ _ _ (checked_resend l t a p out_len) first ∙ at in
             (step-done l (resend t a p out_len) j, output-done l (resend t a p out_len) j)
 
@@ -165,12 +164,12 @@ module _ (l : Listener) (t : ℕ) where
     abbrev this : Call
     this = segment t src seg iss out_len
 
-    pub segment-stopped : {r : Refusal} → Wired ≡ Refused r → (step l this ≡ refused_with l r) × (output_of l this ≡ [])
+    pub segment-stopped : {r : Refusal} → Wired ≡ Err r → (step l this ≡ refused_with l r) × (output_of l this ≡ [])
     segment-stopped q =
         let j = stopped _ _ _ (checked_segment l t src seg iss out_len) q in
         (step_refused l this j, output_refused l this j)
 
-    module _ (first : Wired ≡ Clear) where
+    module _ (first : Wired ≡ all_clear) where
       abbrev the_view : View
       the_view = view l t (sender src seg)
 
@@ -180,20 +179,20 @@ module _ (l : Listener) (t : ℕ) where
       abbrev kind : Kind
       kind = kind_of (fields_of seg).flags
 
-      pub segment_refused : {r : Refusal} → refusal (kind_checks the_view (fields_of seg) kind) ≡ Refused r
+      pub segment_refused : {r : Refusal} → refusal (kind_checks the_view (fields_of seg) kind) ≡ Err r
           → (step l this ≡ refused_with l r) × (output_of l this ≡ [])
       segment_refused q =
           let j = passed _ _ _ (checked_segment l t src seg iss out_len) first ∙ q in
           (step_refused l this j, output_refused l this j)
 
       -- one that is done, with the event, the slot, the remarks, and the fresh cookie if there is one, that it came to
-      module _ (second : refusal (kind_checks the_view (fields_of seg) kind) ≡ Clear) {e : Event} {s : Slot}
+      module _ (second : refusal (kind_checks the_view (fields_of seg) kind) ≡ all_clear) {e : Event} {s : Slot}
           (event-is : e ≡ segment_event the_view (block src) seg kind) (slot_is : s ≡ slot_after the_view (held_until the_view t) (block src) (fields_of seg) iss (segment_event the_view (block src) seg kind))
           {next : Listener} (moves : next ≡ segment_after l t found e s) {r : Remarks} (remarks_are : r ≡ remarks_of l.settings.codings seg) where
         abbrev done : Event
         done = segment_event the_view (block src) seg kind
 
-        clear : call_check l this ≡ Clear
+        clear : call_check l this ≡ all_clear
         clear = passed _ _ _ (checked_segment l t src seg iss out_len) first ∙ second
 
         next_is : next ≡ after l this
@@ -246,16 +245,13 @@ module _ (l : Listener) (t : ℕ) (a : List ℕ) (p out_len : ℕ) (out : List �
 
 -- what follows for its address, its time and its segment from a call's clear checks
 module _ (h : LocalEndpoint) (untimely : Bool) (a : List ℕ) where
-  pub output-short-address : (out_len : ℕ) → refusal (timely h.started untimely ++ addressed h.family a ++ output_checks out_len) ≡ Clear → length a ≤ 16
+  pub output-short-address : (out_len : ℕ) → refusal (timely h.started untimely ++ addressed h.family a ++ output_checks out_len) ≡ all_clear → length a ≤ 16
   output-short-address out_len e = family-short h.family a (not-false _ (every-check (timely h.started untimely ++ addressed h.family a ++ output_checks out_len) e).1.1.0)
 
-  pub wired-short : (seg : List ℕ) (out_len : ℕ) → refusal (wire_checks h untimely a seg out_len) ≡ Clear → length a ≤ 16
+  pub wired-short : (seg : List ℕ) (out_len : ℕ) → refusal (wire_checks h untimely a seg out_len) ≡ all_clear → length a ≤ 16
   wired-short seg out_len e = family-short h.family a (not-false _ (every-check (wire_checks h untimely a seg out_len) e).1.1.0)
 
-  pub wired-timely : (seg : List ℕ) (out_len : ℕ) → refusal (wire_checks h untimely a seg out_len) ≡ Clear → untimely ≡ false
-  wired-timely seg out_len e = (every-check (wire_checks h untimely a seg out_len) e).1.0
-
-  pub wired-formed : (seg : List ℕ) (out_len : ℕ) → refusal (wire_checks h untimely a seg out_len) ≡ Clear → malformed seg ≡ false
+  pub wired-formed : (seg : List ℕ) (out_len : ℕ) → refusal (wire_checks h untimely a seg out_len) ≡ all_clear → malformed seg ≡ false
   wired-formed seg out_len e = (every-check (wire_checks h untimely a seg out_len) e).1.1.1.1.0
 
 -- settings in range have an MSS of two bytes

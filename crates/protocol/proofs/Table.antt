@@ -49,16 +49,6 @@ module _ (t : ℕ) (b : List ℕ) (port : ℕ) (s : Slot) where
   unfolding holds_peer
   live e = rw e
 
--- A slot counts in the share of an address, by whether it is pending
-module _ (t : ℕ) (b : List ℕ) (s : Slot) where
-  pub not_counted : is_pending t s.status ≡ false → pends_from t b s ≡ false
-  unfolding pends_from
-  not_counted e = rw e
-
-  pub by_address : is_pending t s.status ≡ true → pends_from t b s ≡ same_bytes s.addr b
-  unfolding pends_from
-  by_address e = rw e
-
 -- Tests, as numbers
 pub and_most : (a b c : Bool) → bit a ≤ bit b → bit (a && c) ≤ bit (b && c)
 and_most true true c h = omega arith

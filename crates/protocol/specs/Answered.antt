@@ -1,11 +1,11 @@
 -- Document 02, Items 4 and 7: the SYN-ACK to a new opening, as any end reads it that counts the coding of the opening's option.
 -- Assumes nothing.
 use Rattle.std.specs.Prelude.{ℕ, ◌+◌, ◌^◌, ◌<◌, ◌≡◌, true, false, List}
+use Rattle.segment.specs.Refusal.{all_clear}
 use Rattle.lists.specs.Bytes.{Bytes}
 use Rattle.segment.specs.Header.{fields_of, kind_of, option_area}
 use Rattle.segment.specs.Options.{prefix_length, counts_coding, options_of, cookie_bytes, coding_of}
 use Rattle.segment.specs.Remarks.{no_remarks, remarks_of}
-use Rattle.segment.specs.declared.refusal.Check.TheVariants.{Clear}
 use Rattle.segment.specs.declared.header.Kind.TheVariants.{Syn}
 use Rattle.segment.specs.declared.options.Coding.{Coding}
 use Rattle.segment.specs.declared.options.Codings.{Codings}
@@ -28,7 +28,7 @@ module _ (l : Listener) (t : ℕ) (src seg : List ℕ) (iss out_len : ℕ) where
 
   -- a new opening that is done; numbers and arrays are such as the call's types allow
   pub record DoneOpening : Type 0 where
-    pub clear : call_check l call ≡ Clear
+    pub clear : call_check l call ≡ all_clear
     pub syn : kind_of (fields_of seg).flags ≡ Syn
     pub new : known seen ≡ false
     pub own-bytes : Bytes (own_address l.local)

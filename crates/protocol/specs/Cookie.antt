@@ -1,6 +1,6 @@
 -- Document 01, "Cookie", and document 02, Item 4: the cookie of an address under a key, and when a cookie is right. Whether a cookie is right, and whether a fresh one is due, does not depend on its coding.
 -- Assumes nothing.
-use Rattle.std.specs.Prelude.{ℕ, List, Bool, true, false, ◌&&◌, ◌||◌, take, drop}
+use Rattle.std.specs.Prelude.{ℕ, List, Option, None, Some, Bool, true, false, ◌||◌, take, drop}
 use Rattle.cipher.specs.Cipher.{cipher}
 use Rattle.segment.specs.Header.{option_area}
 use Rattle.segment.specs.Options.{options_of}
@@ -40,6 +40,11 @@ right_under round_keys b nothing = false
 right_under round_keys b request = false
 right_under round_keys b (cookie c) = same_bytes c (cookie_under round_keys b)
 
--- under the present key, or under the previous one if there is one
+-- under the previous key, if there is one
+abbrev pub right_before : Option (List ℕ) → List ℕ → Carried → Bool
+right_before None b o = false
+right_before (Some round_keys) b o = right_under round_keys b o
+
+-- under the present key or the previous one
 unfoldable pub right : Keys → List ℕ → Carried → Bool
-right k b o = right_under k.present b o || (k.rotated && right_under k.previous b o)
+right k b o = right_under k.present b o || right_before k.previous b o

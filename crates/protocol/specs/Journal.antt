@@ -1,7 +1,7 @@
 -- Document 01, "Demand 3's book", and document 02, Items 4 and 8: a record of the calls that is kept apart from the listener. It is fed the start's arguments, each call's and the number
 -- returned, and nothing from the slots.
 -- Assumes nothing.
-use Rattle.std.specs.Prelude.{ℕ, zero, suc, ◌+◌, min, List, [], ◌∷◌, Bool, true, false, cond, ◌&&◌, ◌||◌, ltb, length, take}
+use Rattle.std.specs.Prelude.{ℕ, zero, suc, ◌+◌, min, Option, None, Some, option_map, List, [], ◌∷◌, Bool, true, false, cond, ◌&&◌, ◌||◌, ltb, length, take}
 use Rattle.cipher.specs.KeyExpansion.{key_expansion}
 use Rattle.segment.specs.Header.{fields_of, payload_of, kind_of}
 use Rattle.segment.specs.declared.options.Codings.TheVariants.{NewOnly}
@@ -10,7 +10,7 @@ use Rattle.segment.specs.declared.header.Kind.TheVariants.{Syn, Rst, Ack, Other}
 use Rattle.lists.specs.Bytes.{same_bytes}
 use Rattle.lists.specs.Lists.{tally, amend}
 use Rattle.endpoint.specs.Address.{Peer, same_peer, block}
-use Rattle.protocol.specs.Cookie.{Carried, carried_by, right_under}
+use Rattle.protocol.specs.Cookie.{carried_by, right_under, right_before}
 use Rattle.protocol.specs.Call.{fresh_mss, fresh_share, Call, segment, settings, key, abandon, resend, close, sender, time_of, Verdict, early, plain, repeat, no_verdict}
 use Rattle.protocol.specs.declared.state.Settings.{Settings}
 
@@ -24,15 +24,11 @@ pub record Entry : Type 0 where
   pub peer : Peer
   pub mark : Mark
 
-pub data PreviousKey : Type 0 where
-  no_key : PreviousKey
-  a_key : List ℕ → PreviousKey
-
 pub record Journal : Type 0 where
   pub time : ℕ
   pub settings : Settings
   pub present : List ℕ
-  pub previous : PreviousKey
+  pub previous : Option (List ℕ)
   pub entries : List Entry
 
 -- At the start: as in the fresh state.
@@ -42,7 +38,7 @@ fresh_journal own port k =
       time = 0;
       settings = record { on = false; limit = 0; early_room = 0; hold = 0; mss = fresh_mss; codings = NewOnly; share = fresh_share };
       present = k;
-      previous = no_key;
+      previous = None;
       entries = [];
     }
 
@@ -115,14 +111,10 @@ amended j p rule = with j (amend (only p rule) j.entries)
 -- Openings
 
 -- the cookie, of the option that counts under the settings in force, is the one for the address under the present key, or under the previous one
-abbrev pub right_before : PreviousKey → List ℕ → Carried → Bool
-right_before no_key b o = false
-right_before (a_key k) b o = right_under (key_expansion k) b o
-
 unfoldable pub has_right : Journal → List ℕ → List ℕ → Bool
 has_right j src seg =
     let o = carried_by (settings_of j).codings seg in
-    right_under (key_expansion j.present) (block src) o || right_before j.previous (block src) o
+    right_under (key_expansion j.present) (block src) o || right_before (option_map key_expansion j.previous) (block src) o
 
 -- the terms for an early opening: on, below the limit so far, its address below the share so far, a right cookie
 unfoldable pub opens_early : Journal → List ℕ → List ℕ → Bool
@@ -153,7 +145,7 @@ segment_noted j src seg Other = j
 unfoldable pub noted : Journal → Call → Journal
 noted j (segment t src seg iss out_len) = segment_noted j src seg (kind_of (fields_of seg).flags)
 noted j (settings t g) = record { time = j.time; settings = g; present = j.present; previous = j.previous; entries = j.entries }
-noted j (key t k) = record { time = j.time; settings = j.settings; present = k; previous = a_key j.present; entries = j.entries }
+noted j (key t k) = record { time = j.time; settings = j.settings; present = k; previous = Some j.present; entries = j.entries }
 noted j (abandon t a p) = amended j (record { address = a; port = p }) removed
 noted j (resend t a p out_len) = j
 noted j (close t a p) = amended j (record { address = a; port = p }) removed

@@ -8,7 +8,7 @@ use Rattle.segment.specs.Write.{longest_syn_ack}
 use Rattle.segment.specs.Checksum.{checksum_right}
 use Rattle.segment.specs.Sequence.{next_after, in_window}
 use Rattle.segment.specs.declared.refusal.Refusal.TheVariants.{Format, Checksum, Port, Flags, NameInUse, TableFull, NoConnection, Sequence, Output, Range}
-use Rattle.segment.specs.declared.refusal.Check.{Check}
+use Rattle.segment.specs.Refusal.{Check}
 use Rattle.segment.specs.declared.header.Header.{Header}
 use Rattle.segment.specs.declared.header.Kind.{Kind}
 use Rattle.segment.specs.declared.header.Kind.TheVariants.{Syn, Rst, Ack, Other}

@@ -1,7 +1,7 @@
 -- Document 02, Item 8, "One hospital, one share": what the share holds each source address to.
 -- Assumes nothing.
 use Rattle.std.specs.Prelude.{ℕ, ◌≤◌, ◌<◌, max, ◌≡◌, List, [], ◌∷◌, false, length}
-use Rattle.segment.specs.declared.refusal.Check.TheVariants.{Clear}
+use Rattle.segment.specs.Refusal.{all_clear}
 use Rattle.endpoint.specs.Address.{block}
 use Rattle.protocol.specs.Table.{slot_count, free_place, pending_from}
 use Rattle.protocol.specs.Call.{Call, time_of, sender}
@@ -18,7 +18,7 @@ use Rattle.protocol.specs.declared.outcome.Event.TheVariants as events
 -- this share is in force at each of the calls, made one after the other, that is not refused
 abbrev pub Under : ℕ → Listener → List Call → Type 0
 Under share l [] = Unit {0}
-Under share l (c ∷ cs) = (call_check l c ≡ Clear → (settings_at l (time_of c)).share ≡ share) × Under share (step l c).listener cs
+Under share l (c ∷ cs) = (call_check l c ≡ all_clear → (settings_at l (time_of c)).share ≡ share) × Under share (step l c).listener cs
 
 -- after each of the calls the address has at most so many pending
 abbrev pub AtMost : ℕ → List ℕ → Listener → List Call → Type 0

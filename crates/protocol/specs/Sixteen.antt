@@ -1,8 +1,8 @@
 -- Document 01, "The table of sixteen", with the share of document 02, Item 8, in row 14: one table of statements about the definitions that the contracts cite.
 -- Assumes nothing.
-use Rattle.std.specs.Prelude.{ℕ, ◌≤◌, ◌<◌, ◌≡◌, List, [], ◌∷◌, true, false, length}
+use Rattle.std.specs.Prelude.{ℕ, ◌≤◌, ◌<◌, ◌≡◌, List, [], ◌∷◌, true, false, length, Err}
 use Rattle.segment.specs.Header.{fields_of, kind_of}
-use Rattle.segment.specs.Refusal.{refusal}
+use Rattle.segment.specs.Refusal.{refusal, all_clear}
 use Rattle.segment.specs.Sequence.{next_after}
 use Rattle.segment.specs.Options.{nothing, read_options}
 use Rattle.segment.specs.Write.{syn_ack_fields, syn_ack_bytes}
@@ -12,7 +12,6 @@ use Rattle.segment.specs.declared.options.Coding.TheVariants.{New}
 use Rattle.segment.specs.declared.options.Codings.{Codings}
 use Rattle.segment.specs.declared.options.FastOpenOption.TheVariants.{Request}
 use Rattle.segment.specs.declared.refusal.Refusal.TheVariants.{Sequence}
-use Rattle.segment.specs.declared.refusal.Check.TheVariants.{Clear, Refused}
 use Rattle.segment.specs.declared.header.Header.{Header}
 use Rattle.segment.specs.declared.header.Kind.TheVariants.{Syn, Ack}
 use Rattle.segment.specs.declared.write.SynAck.{SynAck}
@@ -29,7 +28,7 @@ use Rattle.protocol.specs.declared.outcome.Event.TheVariants as events
 
 -- a new opening that is not refused, on a listener of 64 slots
 pub record NewOpening (l : Listener) (t : ℕ) (src seg : List ℕ) (iss out_len : ℕ) : Type 0 where
-  pub clear : call_check l (segment t src seg iss out_len) ≡ Clear
+  pub clear : call_check l (segment t src seg iss out_len) ≡ all_clear
   pub syn : kind_of (fields_of seg).flags ≡ Syn
   pub new : known (view l t (sender src seg)) ≡ false
   pub slots : length l.slots ≡ slot_count
@@ -49,9 +48,9 @@ pub record Sixteen : Type 0 where
   pub row1 : (a : SynAck) → a.irs ≡ 4294967295 → a.accepted ≡ 0 → (syn_ack_fields a).ack ≡ 0
   pub row2 : (a : SynAck) → a.irs ≡ 4294967290 → a.accepted ≡ 10 → (syn_ack_fields a).ack ≡ 5
   -- a completion where 5 is expected: admitted, or refused 10
-  pub row3 : (v : View) (h : Header) → CompletesFive v h → h.seq ≡ 65539 → refusal (kind_checks v h Ack) ≡ Clear
-  pub row4 : (v : View) (h : Header) → CompletesFive v h → h.seq ≡ 65540 → refusal (kind_checks v h Ack) ≡ Refused Sequence
-  pub row5 : (v : View) (h : Header) → CompletesFive v h → h.seq ≡ 4 → refusal (kind_checks v h Ack) ≡ Refused Sequence
+  pub row3 : (v : View) (h : Header) → CompletesFive v h → h.seq ≡ 65539 → refusal (kind_checks v h Ack) ≡ all_clear
+  pub row4 : (v : View) (h : Header) → CompletesFive v h → h.seq ≡ 65540 → refusal (kind_checks v h Ack) ≡ Err Sequence
+  pub row5 : (v : View) (h : Header) → CompletesFive v h → h.seq ≡ 4 → refusal (kind_checks v h Ack) ≡ Err Sequence
   -- options, under either setting of the codings: a request; skipped, so that one behind is found; a cookie; reading ends, and one before stands
   pub row6 : (g : Codings) → read_options g (34 ∷ 2 ∷ []) ≡ only_fast_open (Request New)
   pub row7 : (g : Codings) → (read_options g (34 ∷ 3 ∷ 0 ∷ []) ≡ nothing) × (read_options g (34 ∷ 3 ∷ 0 ∷ 34 ∷ 2 ∷ []) ≡ only_fast_open (Request New))

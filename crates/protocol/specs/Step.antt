@@ -1,15 +1,13 @@
 -- Document 01, "Listener", and document 02, Items 4, 7 and 8: the start, and one call on a listener with its outcome: the listener next, what happened, what is written and what is remarked.
 -- Assumes nothing.
-use Rattle.std.specs.Prelude.{ℕ, ◌+◌, min, List, [], ◌∷◌, Bool, true, false, cond, not, ◌&&◌, length, replicate, set}
+use Rattle.std.specs.Prelude.{ℕ, ◌+◌, min, List, [], ◌∷◌, Bool, true, false, cond, not, ◌&&◌, length, replicate, set, Err, Ok, None, Some}
 use Rattle.cipher.specs.KeyExpansion.{key_expansion}
-use Rattle.segment.specs.Refusal.{Checks, refusal}
+use Rattle.segment.specs.Refusal.{Checks, refusal, Check, all_clear}
 use Rattle.segment.specs.Header.{fields_of, payload_of, kind_of}
 use Rattle.segment.specs.Options.{options_of, coding_of}
 use Rattle.segment.specs.Remarks.{no_remarks, remarks_of}
 use Rattle.segment.specs.Write.{syn_ack_bytes}
 use Rattle.segment.specs.declared.refusal.Refusal.TheVariants.{Address, Range}
-use Rattle.segment.specs.declared.refusal.Check.{Check}
-use Rattle.segment.specs.declared.refusal.Check.TheVariants.{Clear, Refused}
 use Rattle.segment.specs.declared.header.Header.{Header}
 use Rattle.segment.specs.declared.header.Kind.{Kind}
 use Rattle.segment.specs.declared.header.Kind.TheVariants.{Syn, Rst, Ack, Other}
@@ -21,14 +19,13 @@ use Rattle.segment.specs.declared.write.SynAck.{SynAck}
 use Rattle.endpoint.specs.Address.{Peer, is_size, family_of, block}
 use Rattle.endpoint.specs.declared.address.Family.TheVariants.{V4}
 use Rattle.protocol.specs.Cookie.{Carried, carried_by, counts, cookie_under, right_under, right}
-use Rattle.protocol.specs.Table.{slot_count, accepted_with, after_reset, free_slot, new_slot, with_status, pending_at}
+use Rattle.protocol.specs.Table.{slot_count, accepted_with, after_reset, free_slot, new_slot, with_status, pending_at, Scan}
 use Rattle.protocol.specs.Call.{fresh_mss, fresh_share, Call, segment, settings, key, abandon, resend, close, sender}
 use Rattle.protocol.specs.View.{known, own_address, scan_for, view, view_of}
 use Rattle.protocol.specs.Refusals.{is_key, call_check}
 use Rattle.protocol.specs.declared.slots.Status.{Status}
 use Rattle.protocol.specs.declared.slots.Status.TheVariants.{Free, SynReceived, SynReceivedEarly, Established}
 use Rattle.protocol.specs.declared.slots.Slot.{Slot}
-use Rattle.protocol.specs.declared.slots.Scan.{Scan}
 use Rattle.protocol.specs.declared.state.Settings.{Settings}
 use Rattle.protocol.specs.declared.state.StoredSettings.{StoredSettings}
 use Rattle.protocol.specs.declared.state.Keys.{Keys}
@@ -54,20 +51,20 @@ blank local k = record { slots = replicate slot_count free_slot; keys = k; local
 abbrev pub never_started : Listener
 never_started =
     blank (record { started = false; family = V4; own = replicate 16 0; port = 0 })
-    (record { present = replicate 176 0; previous = replicate 176 0; rotated = false })
+    (record { present = replicate 176 0; previous = None })
 
 abbrev pub fresh_listener : List ℕ → ℕ → List ℕ → Listener
 fresh_listener own port k =
     blank (record { started = true; family = family_of (length own); own = block own; port = port })
-    (record { present = key_expansion k; previous = replicate 176 0; rotated = false })
+    (record { present = key_expansion k; previous = None })
 
 -- 2: not 4 or 16 bytes. 12: not a key
 abbrev pub start_checks : List ℕ → List ℕ → Checks
 start_checks own k = (Address, not (is_size (length own))) ∷ (Range, not (is_key k)) ∷ []
 
 abbrev pub started_by : List ℕ → ℕ → List ℕ → Check → Started
-started_by own port k Clear = record { listener = fresh_listener own port k; check = Clear }
-started_by own port k (Refused r) = record { listener = never_started; check = Refused r }
+started_by own port k (Ok _) = record { listener = fresh_listener own port k; check = all_clear }
+started_by own port k (Err r) = record { listener = never_started; check = Err r }
 
 unfoldable pub start_of : List ℕ → ℕ → List ℕ → Started
 start_of own port k = started_by own port k (refusal (start_checks own k))
@@ -225,7 +222,7 @@ stored_settings g = record { on = g.on; limit = g.limit; early_room = g.early_ro
 
 -- the present key becomes the previous one
 abbrev pub with_key : Keys → List ℕ → Keys
-with_key k new = record { present = key_expansion new; previous = k.present; rotated = true }
+with_key k new = record { present = key_expansion new; previous = Some k.present }
 
 unfoldable pub after : Listener → Call → Listener
 after l (segment t src seg iss out_len) =
@@ -245,15 +242,15 @@ abbrev pub outcome : Listener → Event → ℕ → Remarks → Outcome
 outcome l e n r = record { listener = l; event = e; written = n; remarks = r }
 
 abbrev pub outcome_of : Listener → Call → Check → Outcome
-outcome_of l c Clear = outcome (after l c) (done_event (view_of l c) c) (length (done_output (view_of l c) c)) (done_remarks (view_of l c) c)
-outcome_of l c (Refused r) = outcome l (events.Refused r) 0 no_remarks
+outcome_of l c (Ok _) = outcome (after l c) (done_event (view_of l c) c) (length (done_output (view_of l c) c)) (done_remarks (view_of l c) c)
+outcome_of l c (Err r) = outcome l (events.Refused r) 0 no_remarks
 
 unfoldable pub step : Listener → Call → Outcome
 step l c = outcome_of l c (call_check l c)
 
 abbrev pub output_if : View → Call → Check → List ℕ
-output_if v c Clear = done_output v c
-output_if v c (Refused r) = []
+output_if v c (Ok _) = done_output v c
+output_if v c (Err r) = []
 
 -- what a call writes at the output's start
 unfoldable pub output_of : Listener → Call → List ℕ

@@ -7,7 +7,6 @@ use Rattle.endpoint.specs.Address.{same_name}
 use Rattle.protocol.specs.declared.slots.Status.{Status}
 use Rattle.protocol.specs.declared.slots.Status.TheVariants.{Free, SynReceived, SynReceivedEarly, ResetHeld, Established}
 use Rattle.protocol.specs.declared.slots.Slot.{Slot}
-use Rattle.protocol.specs.declared.slots.Scan.{Scan}
 
 -- how many slots the table has
 abbrev pub slot_count : ℕ
@@ -95,7 +94,12 @@ pends_from t b s = is_pending t s.status && same_bytes s.addr b
 abbrev pub pending_from : ℕ → List ℕ → List Slot → ℕ
 pending_from t b slots = tally (pends_from t b) slots
 
--- In one scan of the table: the place of the peer with this block and port among the slots that are live at the time, the lowest free place (each the
--- number of slots where there is none), and pending.
+-- What one scan of the table finds: two places, each the number of slots where there is none, and pending.
+pub record Scan : Type 0 where
+  pub place : ℕ
+  pub free : ℕ
+  pub pending : ℕ
+
+-- The place of the peer with this block and port among the slots that are live at the time, the lowest free place, and pending.
 abbrev pub scan_of : ℕ → List ℕ → ℕ → List Slot → Scan
 scan_of t b port slots = record { place = first_index (holds_peer t b port) slots; free = free_place t slots; pending = pending_at t slots }

@@ -1,9 +1,8 @@
 -- The customer's letter, its worst day, in TCP's terms: two openings from one source address, with one right cookie and one initial sequence number, from two ports.
 -- Assumes nothing.
 use Rattle.std.specs.Prelude.{ℕ, ◌+◌, ◌≤◌, ◌≡◌, List, true, false, not, length, take}
-use Rattle.segment.specs.Refusal.{refusal}
+use Rattle.segment.specs.Refusal.{refusal, all_clear}
 use Rattle.segment.specs.Header.{fields_of, payload_of, kind_of}
-use Rattle.segment.specs.declared.refusal.Check.TheVariants.{Clear}
 use Rattle.segment.specs.declared.header.Kind.TheVariants.{Syn}
 use Rattle.lists.specs.Lists.{tally}
 use Rattle.endpoint.specs.Address.{block}
@@ -29,7 +28,7 @@ call_of src a = segment a.time src a.seg a.iss a.out_len
 
 -- an opening that no check before its kind refuses: the listener was started, and the time, the address, the output, shape, checksum and port are right
 pub record Opens (l : Listener) (src : List ℕ) (a : Arrival) : Type 0 where
-  pub clear : refusal (wire_checks l.local (is_untimely l.clock a.time) src a.seg a.out_len) ≡ Clear
+  pub clear : refusal (wire_checks l.local (is_untimely l.clock a.time) src a.seg a.out_len) ≡ all_clear
   pub syn : kind_of (fields_of a.seg).flags ≡ Syn
 
 -- the listener that the first opening leaves

@@ -4,14 +4,13 @@
 use Rattle.std.specs.Prelude.{ℕ, List, Bool, not, ltb, get_or, take}
 use Rattle.endpoint.specs.Address.{Peer, size, block}
 use Rattle.endpoint.specs.Checks.{is_untimely}
-use Rattle.protocol.specs.Table.{slot_count, is_free, free_slot, pending_from, scan_of}
+use Rattle.protocol.specs.Table.{slot_count, is_free, free_slot, pending_from, Scan, scan_of}
 use Rattle.protocol.specs.Call.{Call, time_of, peer_of}
 use Rattle.protocol.specs.declared.state.LocalEndpoint.{LocalEndpoint}
 use Rattle.protocol.specs.declared.state.StoredSettings.{StoredSettings}
 use Rattle.protocol.specs.declared.state.Listener.{Listener}
 use Rattle.protocol.specs.declared.state.View.{View}
 use Rattle.protocol.specs.declared.slots.Slot.{Slot}
-use Rattle.protocol.specs.declared.slots.Scan.{Scan}
 
 -- the settings in force at a time
 abbrev pub settings_at : Listener → ℕ → StoredSettings

@@ -1,7 +1,7 @@
 // The outcome of a call.
 use crate::state::Listener;
 use segment::options::Remarks;
-use segment::refusal::{Check, Refusal};
+use segment::refusal::Refusal;
 
 // What happened. Of an opening it is the verdict: `FastOpened` is document 01's early, with its accepted count, `Regular` its plain and
 // `Retransmission` its repeat. `Completed` and `WasReset` are a completion and a reset; `Done` is any other call that is done.
@@ -29,5 +29,5 @@ pub struct Outcome {
 #[derive(Clone, Copy, Drop)]
 pub struct Started {
     pub listener: Listener,
-    pub check: Check,
+    pub check: Result<(), Refusal>,
 }

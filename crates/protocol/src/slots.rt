@@ -1,4 +1,4 @@
-// The table's slots, and what one scan of them finds.
+// The table's slots.
 
 // How many slots the table has.
 pub const SLOTS: usize = 64;
@@ -21,12 +21,4 @@ pub struct Slot {
     pub irs: u32,
     pub iss: u32,
     pub status: Status,
-}
-
-// What one scan finds: the peer's place and the lowest free place, each 64 where there is none, and how many slots are pending.
-#[derive(Clone, Copy, Drop)]
-pub struct Scan {
-    pub place: usize,
-    pub free: usize,
-    pub pending: u32,
 }

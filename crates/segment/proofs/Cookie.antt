@@ -1,5 +1,5 @@
 -- What is found in an option area: a cookie lies in it and has 4 to 16 bytes, an even number; and of which segments it counts. Assumes nothing.
-use Rattle.std.proofs.Common.{◌≡◌, ℕ, ◌+◌, ◌-◌, ◌%◌, ◌≤◌, Bool, true, false, cond, ◌||◌, eqb, leb, List, length, drop, refl, arith, length-drop, length-take-le, eq-eqb, ne_eqb, eqb-true, le-leb, leb-true}
+use Rattle.std.proofs.Common.{◌≡◌, ℕ, ◌+◌, ◌-◌, ◌%◌, ◌≤◌, Bool, true, false, cond, ◌||◌, eqb, leb, List, length, drop, refl, arith, length-drop, length-take-le, eq-eqb, eqb-true, le-leb, leb-true}
 use Rattle.segment.specs.Bytes.{byte_at}
 use Rattle.segment.specs.Header.{has, SYN, RST, ACK, FIN, fields_of, kind_of, option_area}
 use Rattle.segment.specs.declared.header.Kind.{Kind}
@@ -69,15 +69,6 @@ module _ (P : FastOpenOption → Type 0) (absent : P Absent) (g : Codings) (area
   pub of_segment : (syn : Bool) → P (if_syn syn (read_options g area)).fast
   of_segment true = of_found
   of_segment false = absent
-
--- kind 34 is the new coding
-pub is_new : (area : List ℕ) (i len : ℕ) → byte_at area i ≡ 34 → is_in New area i len ≡ true
-unfolding is_in
-is_new area i len e = eq-eqb (byte_at area i) 34 e
-
-pub not_new : (area : List ℕ) (i len : ℕ) → (byte_at area i ≡ 34 → ⊥) → is_in New area i len ≡ false
-unfolding is_in
-not_new area i len e = ne_eqb (byte_at area i) 34 e
 
 -- an option that is in a coding has its prefix
 pub prefix_fits : (c : Coding) (area : List ℕ) (i len : ℕ) → is_in c area i len ≡ true → 2 ≤ len → prefix_length c ≤ len

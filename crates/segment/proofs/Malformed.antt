@@ -1,10 +1,10 @@
 -- What holds of a segment that is well formed, and of its parts. Assumes nothing.
+use Rattle.std.specs.Prelude.{None, Some}
 use Rattle.std.proofs.Common.{◌≡◌, ℕ, ◌+◌, ◌-◌, ◌*◌, ◌<◌, ◌≤◌, Bool, true, false, cond, ltb, List, [], ◌++◌, length, take, drop, sym, refl, ap, ◌∙◌, arith, take-append-drop, length-take, drop-drop, ltb-false}
 use Rattle.segment.specs.Bytes.{byte_at}
 use Rattle.segment.specs.Header.{malformed, offset_of, header_length, fields_of, shape_of, shape_check, option_area, payload_of}
 use Rattle.segment.specs.Refusal.{check_number}
 use Rattle.segment.specs.declared.header.Header.{Header}
-use Rattle.segment.specs.declared.header.Shape.TheVariants.{Malformed, WellFormed}
 use Rattle.lists.proofs.Bools.{or_false}
 
 -- none of the four reasons for refusal 1
@@ -75,23 +75,23 @@ pub shape-number : (s : List ℕ) → check_number (shape_check (shape_of s)) �
 unfolding shape_of
 shape-number s = go (malformed s)
   where
-    go : (b : Bool) → check_number (shape_check (cond b Malformed (WellFormed (fields_of s)))) ≡ cond b 1 0
+    go : (b : Bool) → check_number (shape_check (cond b None (Some (fields_of s)))) ≡ cond b 1 0
     go true = refl
     go false = refl
 
 -- what follows for the segment from its shape
-pub ill_shaped : (s : List ℕ) → shape_of s ≡ Malformed → malformed s ≡ true
+pub ill_shaped : (s : List ℕ) → shape_of s ≡ None → malformed s ≡ true
 unfolding shape_of
 ill_shaped s e = go (malformed s) e
   where
-    go : (b : Bool) → cond b Malformed (WellFormed (fields_of s)) ≡ Malformed → b ≡ true
+    go : (b : Bool) → cond b None (Some (fields_of s)) ≡ None → b ≡ true
     go true k = refl
     go false k = absurd (let z : ◌≡◌ {A = ℕ} 0 1 = cc in omega arith)
 
-pub well_shaped : (s : List ℕ) (h : Header) → shape_of s ≡ WellFormed h → (malformed s ≡ false) × (h ≡ fields_of s)
+pub well_shaped : (s : List ℕ) (h : Header) → shape_of s ≡ Some h → (malformed s ≡ false) × (h ≡ fields_of s)
 unfolding shape_of
 well_shaped s h e = go (malformed s) e
   where
-    go : (b : Bool) → cond b Malformed (WellFormed (fields_of s)) ≡ WellFormed h → (b ≡ false) × (h ≡ fields_of s)
+    go : (b : Bool) → cond b None (Some (fields_of s)) ≡ Some h → (b ≡ false) × (h ≡ fields_of s)
     go true k = absurd (let z : ◌≡◌ {A = ℕ} 0 1 = cc in omega arith)
     go false k = (refl, cc)

@@ -66,7 +66,6 @@ pseudo_parts src dst n ipv4 s₁ s₂ s₃ f k e₁ e₂ e₃ =
     e₃ ∙ rw (e₂, e₁, k) (sym (sum-append 0 src (dst ++ t) f.even ∙ sum-append (ones_sum 0 src) dst t e))
 
 -- the sum that a segment is checked by, from the pseudo-header's
-pub segment_parts : (src dst seg : List ℕ) → Family src dst →
-    ones_sum (ones_sum 0 (pseudo_header src dst (length seg))) seg ≡ segment_sum src dst seg
+pub right_sum : (src dst seg : List ℕ) → one_family src dst ≡ true → segment_sum src dst seg ≡ ones_sum (ones_sum 0 (pseudo_header src dst (length seg))) seg
 unfolding segment_sum
-segment_parts src dst seg f = sym (sum-append 0 (pseudo_header src dst (length seg)) seg (pseudo_even src dst (length seg) f))
+right_sum src dst seg e = sum-append 0 (pseudo_header src dst (length seg)) seg (pseudo_even src dst (length seg) (family src dst e))

@@ -1,19 +1,17 @@
 -- The places of the options that are used: they are those of options that count, and what begins there is what the reader finds. Assumes nothing.
+use Rattle.std.specs.Prelude.{None, Option, Some}
 use Rattle.std.proofs.Common.{◌≡◌, ℕ, zero, suc, ◌+◌, ◌-◌, ◌<◌, ◌≤◌, Bool, true, false, cond, eqb, List, length, sym, refl, ap, ◌∙◌, ap₂, arith, ne_eqb, eqb-true}
 use mathlib.Core.Bool.{false≢true}
 use Rattle.lists.proofs.Bools.{and_true}
 use Rattle.segment.specs.Bytes.{byte_at, word_at}
 use Rattle.segment.specs.Options.{nothing, is_mss_option, mss_option, fast_open_option, is_counted, first_mss, first_fast_open, with_option, stands, read_options}
 use Rattle.segment.specs.Remarks.{first_at, with_remark, broken_at, remarks_in, no_remarks}
-use Rattle.segment.specs.Places.{no_places, with_places, places_broken, places_in, mss_value_at, fast_at, found_at, MssFits, FastFits}
+use Rattle.segment.specs.Places.{Places, no_places, with_places, places_broken, places_in, mss_value_at, fast_at, found_at, MssFits, FastFits}
 use Rattle.segment.specs.declared.options.Codings.{Codings}
-use Rattle.segment.specs.declared.options.Mss.{Mss}
-use Rattle.segment.specs.declared.options.Mss.TheVariants.{NotGiven, Given}
 use Rattle.segment.specs.declared.options.FastOpenOption.{FastOpenOption}
 use Rattle.segment.specs.declared.options.FastOpenOption.TheVariants.{Absent, Request, Cookie}
 use Rattle.segment.specs.declared.options.Options.{Options}
 use Rattle.segment.specs.declared.options.Remarks.{Remarks}
-use Rattle.segment.specs.declared.options.Places.{Places}
 use Rattle.segment.proofs.ReadFrom.{both_readings}
 
 -- The first place
@@ -33,7 +31,7 @@ unfolding mss_value_at fast_at
 none_found g area = refl
 
 -- a place
-pub mss_is : (area : List ℕ) (at : ℕ) → 0 < at → mss_value_at area at ≡ Given (word_at area (at + 1))
+pub mss_is : (area : List ℕ) (at : ℕ) → 0 < at → mss_value_at area at ≡ Some (word_at area (at + 1))
 unfolding mss_value_at
 mss_is area at h = rw (ne_eqb at 0 (λ e. omega (arith, h, e)))
 
@@ -75,7 +73,7 @@ module _ (area : List ℕ) (i len : ℕ) where
       go false c = rw (place-begins i c) u
   mss-fits (suc k) f u = rw (place-stays (suc k) (is_mss_option area i len) i (omega arith)) u
 
-  mss-option : {c : Bool} → is_mss_option area i len ≡ c → mss_option area i len ≡ cond c (Given (word_at area (i + 2))) NotGiven
+  mss-option : {c : Bool} → is_mss_option area i len ≡ c → mss_option area i len ≡ cond c (Some (word_at area (i + 2))) None
   unfolding mss_option
   mss-option e = rw e
 
@@ -87,7 +85,7 @@ module _ (area : List ℕ) (i len : ℕ) where
       go : (c : Bool) → is_mss_option area i len ≡ c → mss_option area i len ≡ mss_value_at area (mss_next 0)
       go true c =
           let p : i + 1 + 1 ≡ i + 2 = omega arith in
-          mss-option c ∙ ap (λ (k : ℕ). Given (word_at area k)) (sym p) ∙ sym (rw (place-begins i c) (mss_is area (i + 1) (omega arith)))
+          mss-option c ∙ ap (λ (k : ℕ). Some (word_at area k)) (sym p) ∙ sym (rw (place-begins i c) (mss_is area (i + 1) (omega arith)))
       go false c = mss-option c ∙ rw (place-begins i c)
   mss-first (suc k) = rw (place-stays (suc k) (is_mss_option area i len) i (omega arith), mss_is area (suc k) (omega arith))
 
@@ -140,7 +138,7 @@ module _ (g : Codings) (area : List ℕ) where
         fast = fast_fits g area i len e p.remarks.used l f u.fast;
         same =
             ap (λ (o : Options). with_option g area o i len) u.same
-            ∙ ap₂ (λ (m : Mss) (o : FastOpenOption). record { mss = m; fast = o }) (mss-first area i len p.mss_at) (fast_first g area i len e p.remarks.used u.fast);
+            ∙ ap₂ (λ (m : Option ℕ) (o : FastOpenOption). record { mss = m; fast = o }) (mss-first area i len p.mss_at) (fast_first g area i len e p.remarks.used u.fast);
       }
 
   all_found : Found g area (read_options g area) (places_in g area)
@@ -149,13 +147,6 @@ module _ (g : Codings) (area : List ℕ) where
       both_readings (with_option g area) stands (with_places g area) places_broken (Found g area) area each_found
       (λ found p i _ u. record { mss = u.mss; fast = u.fast; same = u.same }) nothing no_places
       (record { mss = λ h. absurd (omega (arith, h)); fast = none-fits g area; same = sym (none_found g area) })
-
-  -- so the code reads there what the reader finds, and the pass has its remarks
-  pub places-mss : MssFits area (places_in g area).mss_at
-  places-mss = all_found.mss
-
-  pub places_fast : FastFits g area (places_in g area).remarks.used
-  places_fast = all_found.fast
 
   pub places-found : found_at g area (places_in g area) ≡ read_options g area
   places-found = sym all_found.same

@@ -1,4 +1,5 @@
 -- Reading back what was written: the fields, the options and what is remarked on them, the payload, and a checksum that is right. Assumes nothing.
+use Rattle.std.specs.Prelude.{Some}
 use Rattle.std.proofs.Common.{◌≡◌, ℕ, zero, suc, ◌+◌, ◌-◌, ◌*◌, ◌/◌, ◌%◌, ◌<◌, ◌≤◌, Bool, true, false, cond, eqb, List, [], ◌∷◌, ◌++◌, length, drop, replicate, sym, refl, ap, ◌∙◌, subst, ap₂, append_assoc, arith, length-append, drop-drop, take_at, drop_at, le-ltb, ne_eqb, le-leb}
 use Rattle.lists.specs.Bytes.{Bytes}
 use Rattle.segment.specs.Bytes.{byte_at, be16, be32, word, long}
@@ -8,8 +9,6 @@ use Rattle.segment.specs.Remarks.{no_remarks, is_fast_open, with_remark, broken_
 use Rattle.segment.specs.Checksum.{ones_sum, complement, pseudo_header, segment_sum, checksum_right}
 use Rattle.segment.specs.Write.{padding, mss_bytes, prefix_bytes, fast_open_bytes, option_bytes, header_bytes, segment_with, segment_bytes, option_allowed, options_for, length_for, can_write, written}
 use Rattle.segment.specs.declared.header.Header.{Header}
-use Rattle.segment.specs.declared.header.Shape.TheVariants.{WellFormed}
-use Rattle.segment.specs.declared.options.Mss.TheVariants.{Given}
 use Rattle.segment.specs.declared.options.Coding.{Coding}
 use Rattle.segment.specs.declared.options.Coding.TheVariants.{New, Older}
 use Rattle.segment.specs.declared.options.Codings.{Codings}
@@ -50,10 +49,10 @@ fast_open_for true c [] = Request c
 fast_open_for true c (b ∷ rest) = Cookie c (4 + prefix_length c) (suc (length rest))
 
 abbrev pub found_for : ℕ → Bool → Coding → List ℕ → Options
-found_for mss fast c cookie = record { mss = Given mss; fast = fast_open_for fast c cookie }
+found_for mss fast c cookie = record { mss = Some mss; fast = fast_open_for fast c cookie }
 
 without_fast_open : (g : Codings) (mss : ℕ) (c : Coding) (cookie : List ℕ) → mss < 65536
-    → read_options g (option_bytes mss false c cookie) ≡ record { mss = Given mss; fast = Absent }
+    → read_options g (option_bytes mss false c cookie) ≡ record { mss = Some mss; fast = Absent }
 unfolding read_options read_from with_option is_mss_option mss_option fast_open_option is_in option_bytes
 without_fast_open g mss c cookie h = rw (back16 mss h)
 
@@ -95,7 +94,7 @@ two_options on off mss c cookie found =
     e₁ ∙ e₂ ∙ e₃
 
 with_fast_open : (g : Codings) (mss : ℕ) (c : Coding) (cookie : List ℕ) → mss < 65536
-    → read_options g (option_bytes mss true c cookie) ≡ record { mss = Given mss; fast = fast_open_option g (option_bytes mss true c cookie) 4 (length cookie + prefix_length c) }
+    → read_options g (option_bytes mss true c cookie) ≡ record { mss = Some mss; fast = fast_open_option g (option_bytes mss true c cookie) 4 (length cookie + prefix_length c) }
 unfolding read_options with_option is_mss_option mss_option fast_open_option is_in option_bytes
 with_fast_open g mss c cookie h =
     two_options (with_option g (option_bytes mss true c cookie)) stands mss c cookie nothing ∙ rw (back16 mss h)
@@ -126,7 +125,7 @@ pub options_back : (g : Codings) (mss : ℕ) (fast : Bool) (c : Coding) (cookie 
     → option_allowed fast (length cookie) ≡ true → read_options g (option_bytes mss fast c cookie) ≡ found_for mss fast c cookie
 options_back g mss false c cookie k h e = without_fast_open g mss c cookie h
 options_back g mss true c cookie k h e =
-    with_fast_open g mss c cookie h ∙ ap (λ (f : FastOpenOption). record { mss = Given mss; fast = f }) (counted g mss c cookie k ∙ in_coding_lem c cookie e)
+    with_fast_open g mss c cookie h ∙ ap (λ (f : FastOpenOption). record { mss = Some mss; fast = f }) (counted g mss c cookie k ∙ in_coding_lem c cookie e)
 
 -- and remarks nothing but the place of the option, behind the MSS
 abbrev pub remarks_for : Bool → Remarks
@@ -213,7 +212,7 @@ options-bytes mss true c cookie h b =
 
 -- What is read from a segment that was written, with its checksum right; the options are those that count under a setting.
 pub record ReadBack (g : Codings) (src dst : List ℕ) (f : Outgoing) (cookie payload seg : List ℕ) : Type 0 where
-  pub shape : shape_of seg ≡ WellFormed (header_of f (length (options_for f cookie)))
+  pub shape : shape_of seg ≡ Some (header_of f (length (options_for f cookie)))
   pub flags : byte_at seg 13 ≡ f.flags
   pub area : option_area seg ≡ options_for f cookie
   pub options : options_of g seg ≡ found_for f.mss f.fast f.coding cookie

@@ -1,5 +1,5 @@
 -- The laws of `read_from`: skipping is dropping, one step in terms of the area and a place in it, and two readings of one area side by side. Assumes nothing.
-use Rattle.std.proofs.Common.{◌≡◌, ℕ, zero, suc, ◌+◌, ◌-◌, ◌<◌, ◌≤◌, Bool, true, false, cond, ◌&&◌, eqb, leb, List, [], ◌∷◌, length, drop, sym, refl, ap, ◌∙◌, add-zero, add-one, arith, length-drop, get_or-drop, drop-cons, drop-drop, leb-true}
+use Rattle.std.proofs.Common.{◌≡◌, ℕ, zero, suc, ◌+◌, ◌-◌, ◌<◌, ◌≤◌, Bool, true, false, cond, ◌&&◌, eqb, leb, List, [], ◌∷◌, length, drop, sym, refl, ap, ◌∙◌, add-zero, add-one, arith, length-drop, get_or-drop, drop-cons, drop-drop, leb-true, eq-eqb, ne_eqb, drop_of_length-le}
 use Rattle.lists.proofs.Bools.{and_true}
 use Rattle.segment.specs.Bytes.{byte_at}
 use Rattle.segment.specs.Options.{read_from, by_kind}
@@ -39,6 +39,31 @@ module _ {A : Type 0} (each : A → ℕ → ℕ → A) (broken : A → ℕ → A
       ∙ ap (λ (z : A). by_kind k l (length area - i) found (read_at area n found) z (broken found i))
       (skipped n (l - 1) (drop n area) (each found i l)
       ∙ ap (λ (t : List ℕ). read_from each broken (n + (l - 1)) 0 t (each found i l)) (drop-drop (l - 1) n area))
+
+  -- so at a place the reading ends, goes on behind one byte, goes on behind an option, or breaks off; and at the end of the area it ends
+  pub ends : (area : List ℕ) (i : ℕ) (found : A) → i < length area → byte_at area i ≡ 0 → read_at area i found ≡ found
+  ends area i found h k = simp (eq-eqb (byte_at area i) 0 k) at (one_step area i found h)
+
+  pub passes_one : (area : List ℕ) (i : ℕ) (found : A) → i < length area → byte_at area i ≡ 1 → read_at area i found ≡ read_at area (i + 1) found
+  passes_one area i found h k =
+      simp (ne_eqb (byte_at area i) 0 (λ z. omega arith), eq-eqb (byte_at area i) 1 k) at (one_step area i found h)
+
+  pub passes_option : (area : List ℕ) (i : ℕ) (found : A) → i < length area → (byte_at area i ≡ 0 → ⊥) → (byte_at area i ≡ 1 → ⊥)
+      → leb 2 (byte_at area (i + 1)) && leb (byte_at area (i + 1)) (length area - i) ≡ true
+      → read_at area i found ≡ read_at area (i + byte_at area (i + 1)) (each found i (byte_at area (i + 1)))
+  passes_option area i found h k m e =
+      let l = byte_at area (i + 1) in
+      let least = leb-true 2 l (and_true (leb 2 l) (leb l (length area - i)) e).0 in
+      let p : i + 1 + (l - 1) ≡ i + l = omega arith in
+      simp (ne_eqb (byte_at area i) 0 k, ne_eqb (byte_at area i) 1 m, e) at (one_step area i found h) ∙ ap (λ (j : ℕ). read_at area j (each found i l)) p
+
+  pub breaks_off : (area : List ℕ) (i : ℕ) (found : A) → i < length area → (byte_at area i ≡ 0 → ⊥) → (byte_at area i ≡ 1 → ⊥)
+      → leb 2 (byte_at area (i + 1)) && leb (byte_at area (i + 1)) (length area - i) ≡ false → read_at area i found ≡ broken found i
+  breaks_off area i found h k m e = simp (ne_eqb (byte_at area i) 0 k, ne_eqb (byte_at area i) 1 m, e) at (one_step area i found h)
+
+  pub none_left : (area : List ℕ) (i : ℕ) (found : A) → length area ≤ i → read_at area i found ≡ found
+  unfolding read_from
+  none_left area i found h = ap (λ (t : List ℕ). read_from each broken i 0 t found) (drop_of_length-le area h)
 
 -- What holds of two readings of one area at their start, and stays with each option and where they break off, holds at their end.
 module _ {A B : Type 0} (each : A → ℕ → ℕ → A) (broken : A → ℕ → A) (each' : B → ℕ → ℕ → B) (broken' : B → ℕ → B) (R : A → B → Type 0) (area : List ℕ)

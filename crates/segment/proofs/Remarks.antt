@@ -28,7 +28,7 @@ module _ (g : Codings) (area : List ℕ) (i len : ℕ) where
       let t = or_false (is_fast_open_in g New area i len) (is_fast_open_in g Older area i len) e in
       rw (t.0, t.1)
 
-  -- so an option changes nothing if it is none, or is the used one, another that counts, or skipped
+  -- so an option that is none changes nothing, and one that counts is the used one or another
   pub other_remark : (r : Remarks) → is_fast_open g area i len ≡ false → with_remark g area r i len ≡ r
   unfolding with_remark is_skipped
   other_remark r e = rw (not_fast_open e, e, and-false (eqb r.used 0))
@@ -37,11 +37,6 @@ module _ (g : Codings) (area : List ℕ) (i len : ℕ) where
       → with_remark g area r i len ≡ record { skipped = r.skipped; used = first_at r.used true i; broken = r.broken }
   unfolding with_remark is_skipped
   counted_remark r c = rw (c, and-false (is_fast_open g area i len))
-
-  pub skipped_remark : (r : Remarks) → is_fast_open g area i len ≡ true → is_counted (fast_open_option g area i len) ≡ false
-      → with_remark g area r i len ≡ record { skipped = r.skipped + 1; used = r.used; broken = r.broken }
-  unfolding with_remark is_skipped
-  skipped_remark r e c = rw (e, c, and-false (eqb r.used 0))
 
   -- an option is skipped once
   pub skipped-most : (r : Remarks) → (with_remark g area r i len).skipped ≤ r.skipped + 1

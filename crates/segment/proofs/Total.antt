@@ -1,5 +1,5 @@
 -- The total from a place on: a word, a pass, what is left; its bound; and the sum of two parts. Assumes nothing.
-use Rattle.std.proofs.Common.{◌≡◌, ℕ, zero, suc, ◌+◌, ◌*◌, ◌/◌, ◌%◌, ◌<◌, ◌≤◌, List, [], ◌∷◌, ◌++◌, length, take, drop, sym, refl, ap, ◌∙◌, add-one, arith, length-drop, take-append-drop, drop_of_length-le, length-take-le, drop-cons, drop-drop}
+use Rattle.std.proofs.Common.{◌≡◌, ℕ, zero, suc, ◌+◌, ◌*◌, ◌/◌, ◌%◌, ◌<◌, ◌≤◌, List, [], ◌∷◌, ◌++◌, length, drop, sym, refl, ap, ◌∙◌, add-one, arith, drop_of_length-le, drop-cons}
 use native.Mathlib.Numerals.{unary_clauses}
 use Rattle.lists.specs.Bytes.{Bytes}
 use Rattle.segment.specs.Bytes.{byte_at, word}
@@ -59,13 +59,3 @@ unfolding ones_sum
 sum-append sum [] b h = refl
 sum-append sum (x ∷ []) b h = absurd (omega arith)
 sum-append sum (x ∷ y ∷ rest) b h = sum-append (ones_add sum (word x y)) rest b (omega arith)
-
--- the sum from i on: a run of k bytes, an even number, and what follows it
-pub run_on : (acc : ℕ) (s : List ℕ) (i k : ℕ) → i + k ≤ length s → k % 2 ≡ 0 → ones_sum acc (drop i s) ≡ ones_sum (ones_sum acc (take k (drop i s))) (drop (i + k) s)
-run_on acc s i k h e =
-    let d = drop i s in
-    let m : k ≤ length d = simp length-drop (omega arith) in
-    let l : length (take k d) ≡ k = length-take-le k d m in
-    let even : length (take k d) % 2 ≡ 0 = rw l e in
-    ap (ones_sum acc) (sym (take-append-drop k d)) ∙ sum-append acc (take k d) (drop k d) even
-    ∙ ap (ones_sum (ones_sum acc (take k d))) (drop-drop k i s)

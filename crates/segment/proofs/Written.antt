@@ -1,5 +1,8 @@
 -- A segment that is written, and one that is not. Assumes nothing.
 use Rattle.std.proofs.Common.{◌≡◌, ℕ, zero, suc, ◌+◌, ◌-◌, ◌*◌, ◌/◌, ◌≤◌, Bool, true, false, cond, not, eqb, leb, List, ◌++◌, length, take, drop, sym, refl, ap, ◌∙◌, true≢false, append_assoc, arith, length-append, length-take-le, take_at, drop_at, eq-eqb, ne_eqb, leb-true}
+use Rattle.std.specs.Prelude.{None, Some}
+use Rattle.std.specs.Bool.{then_some}
+use Rattle.std.proofs.lemmas.Option.{none-some, same_Some}
 use Rattle.segment.specs.declared.options.Coding.{Coding}
 use Rattle.segment.specs.declared.write.Outgoing.{Outgoing}
 use Rattle.segment.specs.Options.{is_cookie_length, prefix_length}
@@ -37,6 +40,11 @@ allowed_cookie n e =
 allowed_most : (n : ℕ) → option_allowed true n ≡ true → n ≤ 16
 allowed_most zero e = omega arith
 allowed_most (suc n) e = (cookie-length (suc n) (allowed_cookie n e)).most
+
+-- and so few bytes
+pub allowed_short : (fast : Bool) (n : ℕ) → option_allowed fast n ≡ true → fast ≡ true → n ≤ 16
+allowed_short true n e k = allowed_most n e
+allowed_short false n e k = absurd (true≢false (sym k))
 
 pub length_most : (fast : Bool) (c : Coding) (n : ℕ) → option_allowed fast n ≡ true → option_length fast c n ≤ 24
 length_most false c n e = omega (arith, length_plain c n)
@@ -87,15 +95,23 @@ is_allowed mss fast c cookie m e z = go (option_allowed fast (length cookie)) re
     go true q k = (q, k ∙ sym (options-length mss fast c cookie))
     go false q k = absurd (z k)
 
--- the same of a segment's length: 0 that it cannot be written, any other that it can
-pub refused : (src dst : List ℕ) (f : Outgoing) (cookie payload : List ℕ) (out_len n : ℕ)
-    → n ≡ cond (can_write src dst f cookie payload out_len) (length_for f cookie payload) 0 → n ≡ 0 → can_write src dst f cookie payload out_len ≡ false
-refused src dst f cookie payload out_len n e z = go (can_write src dst f cookie payload out_len) (sym e ∙ z)
-  where
-    go : (b : Bool) → cond b (length_for f cookie payload) 0 ≡ 0 → b ≡ false
-    go true q = absurd (omega arith)
-    go false q = refl
+-- what a length, or none, tells of the test
+pub tested : (b : Bool) (x m : ℕ) → Some m ≡ then_some b x → (b ≡ true) × (m ≡ x)
+tested true x m e = (refl, same_Some m x e)
+tested false x m e = absurd (none-some m (sym e))
 
+pub untested : (b : Bool) (x : ℕ) → None ≡ then_some b x → b ≡ false
+untested true x e = absurd (none-some x e)
+untested false x e = refl
+
+-- the options of a segment that may have them have the length that was found
+pub area_length : (mss : ℕ) (fast : Bool) (c : Coding) (cookie : List ℕ) (m : ℕ) → Some m ≡ then_some (option_allowed fast (length cookie)) (option_length fast c (length cookie))
+    → (option_allowed fast (length cookie) ≡ true) × (m ≡ length (option_bytes mss fast c cookie))
+area_length mss fast c cookie m e =
+    let t = tested (option_allowed fast (length cookie)) (option_length fast c (length cookie)) m e in
+    (t.0, t.1 ∙ sym (options-length mss fast c cookie))
+
+-- what is known of a segment that can be written, and of its length
 pub record Allowed (src dst : List ℕ) (f : Outgoing) (cookie payload : List ℕ) (out_len n : ℕ) : Type 0 where
   pub can : can_write src dst f cookie payload out_len ≡ true
   pub facts : Writable src dst f cookie payload out_len
@@ -103,14 +119,11 @@ pub record Allowed (src dst : List ℕ) (f : Outgoing) (cookie payload : List �
   pub whole : n ≡ length_for f cookie payload
 
 pub allowed : (src dst : List ℕ) (f : Outgoing) (cookie payload : List ℕ) (out_len n : ℕ)
-    → n ≡ cond (can_write src dst f cookie payload out_len) (length_for f cookie payload) 0 → (n ≡ 0 → ⊥) → Allowed src dst f cookie payload out_len n
-allowed src dst f cookie payload out_len n e z = go (can_write src dst f cookie payload out_len) refl e
-  where
-    go : (b : Bool) → can_write src dst f cookie payload out_len ≡ b → n ≡ cond b (length_for f cookie payload) 0 → Allowed src dst f cookie payload out_len n
-    go true q k =
-        let w = writable src dst f cookie payload out_len q in
-        record { can = q; facts = w; area = options-most f.mss f.fast f.coding cookie w.options; whole = k }
-    go false q k = absurd (z k)
+    → Some n ≡ then_some (can_write src dst f cookie payload out_len) (length_for f cookie payload) → Allowed src dst f cookie payload out_len n
+allowed src dst f cookie payload out_len n e =
+    let t = tested _ _ n e in
+    let w = writable src dst f cookie payload out_len t.0 in
+    record { can = t.0; facts = w; area = options-most f.mss f.fast f.coding cookie w.options; whole = t.1 }
 
 -- nothing is written
 pub none_written : (src dst : List ℕ) (f : Outgoing) (cookie payload out : List ℕ)

@@ -1,9 +1,8 @@
 -- Document 01, "The table of sixteen", rows 6 to 12: what is found in an option area, in short.
 -- Assumes nothing.
-use Rattle.std.specs.Prelude.{◌≡◌, ℕ, List, ◌∷◌, length}
+use Rattle.std.specs.Prelude.{◌≡◌, ℕ, List, ◌∷◌, length, None, Some}
 use Rattle.segment.specs.Bytes.{word}
 use Rattle.segment.specs.Options.{read_options, cookie_bytes}
-use Rattle.segment.specs.declared.options.Mss.TheVariants.{NotGiven, Given}
 use Rattle.segment.specs.declared.options.Coding.TheVariants.{New}
 use Rattle.segment.specs.declared.options.Codings.{Codings}
 use Rattle.segment.specs.declared.options.FastOpenOption.{FastOpenOption}
@@ -12,11 +11,11 @@ use Rattle.segment.specs.declared.options.Options.{Options}
 
 -- nothing but a Fast Open option
 abbrev pub only_fast_open : FastOpenOption → Options
-only_fast_open f = record { mss = NotGiven; fast = f }
+only_fast_open f = record { mss = None; fast = f }
 
 -- nothing but an MSS
 abbrev pub only_mss : ℕ → Options
-only_mss mss = record { mss = Given mss; fast = Absent }
+only_mss mss = record { mss = Some mss; fast = Absent }
 
 -- an area in which just a cookie of these bytes is found, at byte 2
 abbrev pub FoundCookie : Codings → List ℕ → List ℕ → Type 0

@@ -1,13 +1,10 @@
 -- RFC 9293, 3.1, and document 01, "Numbers returned" (1), "Options" (the area), "Listener" (kinds of segment), "Client" (an answer): the header.
 -- Assumes nothing.
-use Rattle.std.specs.Prelude.{ℕ, ◌-◌, ◌*◌, ◌/◌, ◌%◌, Bool, cond, not, ◌&&◌, ◌||◌, List, [], length, take, drop, ◌==◌, nat_lt}
+use Rattle.std.specs.Prelude.{ℕ, ◌-◌, ◌*◌, ◌/◌, ◌%◌, Bool, cond, not, ◌&&◌, ◌||◌, List, [], length, take, drop, ◌==◌, nat_lt, Err, None, Option, Some}
 use Rattle.segment.specs.Bytes.{byte_at, word_at, long_at}
 use Rattle.segment.specs.declared.refusal.Refusal.TheVariants.{Format}
-use Rattle.segment.specs.declared.refusal.Check.{Check}
-use Rattle.segment.specs.declared.refusal.Check.TheVariants.{Clear, Refused}
+use Rattle.segment.specs.Refusal.{Check, all_clear}
 use Rattle.segment.specs.declared.header.Header.{Header}
-use Rattle.segment.specs.declared.header.Shape.{Shape}
-use Rattle.segment.specs.declared.header.Shape.TheVariants.{Malformed, WellFormed}
 use Rattle.segment.specs.declared.header.Kind.{Kind}
 use Rattle.segment.specs.declared.header.Kind.TheVariants.{Syn, Rst, Ack, Other}
 
@@ -40,13 +37,13 @@ fields_of s =
     }
 
 -- refusal 1, or the header
-unfoldable pub shape_of : List ℕ → Shape
-shape_of s = cond (malformed s) Malformed (WellFormed (fields_of s))
+unfoldable pub shape_of : List ℕ → Option Header
+shape_of s = cond (malformed s) None (Some (fields_of s))
 
 -- the check that a shape comes to
-abbrev pub shape_check : Shape → Check
-shape_check Malformed = Refused Format
-shape_check (WellFormed h) = Clear
+abbrev pub shape_check : Option Header → Check
+shape_check None = Err Format
+shape_check (Some h) = all_clear
 
 -- the option area, from byte 20 to the header's end (at most 40 bytes, by the law `area-most`), and the payload; nothing of a segment that is refused 1
 unfoldable pub option_area : List ℕ → List ℕ

@@ -1,10 +1,8 @@
 -- RFC 9293, 3.1 and 3.2, RFC 7413, 4.1.1 and 9, document 01, "Options", and document 02, Item 4: what reading an option area finds.
 -- Assumes nothing.
-use Rattle.std.specs.Prelude.{ℕ, zero, suc, ◌+◌, ◌-◌, ◌%◌, Bool, true, false, cond, ◌&&◌, List, [], ◌∷◌, length, take, drop, ◌==◌, nat_le}
+use Rattle.std.specs.Prelude.{ℕ, zero, suc, ◌+◌, ◌-◌, ◌%◌, Bool, true, false, cond, ◌&&◌, List, [], ◌∷◌, length, take, drop, ◌==◌, nat_le, None, Option, Some}
 use Rattle.segment.specs.Bytes.{byte_at, word_at}
 use Rattle.segment.specs.Header.{option_area, has, SYN}
-use Rattle.segment.specs.declared.options.Mss.{Mss}
-use Rattle.segment.specs.declared.options.Mss.TheVariants.{NotGiven, Given}
 use Rattle.segment.specs.declared.options.Coding.{Coding}
 use Rattle.segment.specs.declared.options.Coding.TheVariants.{New, Older}
 use Rattle.segment.specs.declared.options.Codings.{Codings}
@@ -24,8 +22,8 @@ most_mss = 1460
 unfoldable pub is_mss_option : List ℕ → ℕ → ℕ → Bool
 is_mss_option area i len = byte_at area i == 2 && len == 4
 
-unfoldable pub mss_option : List ℕ → ℕ → ℕ → Mss
-mss_option area i len = cond (is_mss_option area i len) (Given (word_at area (i + 2))) NotGiven
+unfoldable pub mss_option : List ℕ → ℕ → ℕ → Option ℕ
+mss_option area i len = cond (is_mss_option area i len) (Some (word_at area (i + 2))) None
 
 -- RFC 7413, 4.1.1: a cookie has 4 to 16 bytes, an even number
 unfoldable pub is_cookie_length : ℕ → Bool
@@ -77,9 +75,9 @@ is_counted (Request c) = true
 is_counted (Cookie c at len) = true
 
 -- of several that count the first is used
-abbrev pub first_mss : Mss → Mss → Mss
-first_mss NotGiven next = next
-first_mss (Given v) next = Given v
+abbrev pub first_mss : Option ℕ → Option ℕ → Option ℕ
+first_mss None next = next
+first_mss (Some v) next = Some v
 
 abbrev pub first_fast_open : FastOpenOption → FastOpenOption → FastOpenOption
 first_fast_open Absent next = next
@@ -87,7 +85,7 @@ first_fast_open (Request c) next = Request c
 first_fast_open (Cookie c at len) next = Cookie c at len
 
 abbrev pub nothing : Options
-nothing = record { mss = NotGiven; fast = Absent }
+nothing = record { mss = None; fast = Absent }
 
 -- what is found so far, and the option of len bytes at i
 unfoldable pub with_option : Codings → List ℕ → Options → ℕ → ℕ → Options

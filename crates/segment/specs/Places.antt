@@ -1,16 +1,19 @@
--- For the code alone: the options that are used, by the places where they begin, counted from 1; 0 is none. One pass finds the places, and what stands there is read once.
+-- The options that are used, by the places where they begin, counted from 1; 0 is none: one pass finds the places, and what stands there is what the reader finds.
 -- Assumes nothing.
-use Rattle.std.specs.Prelude.{◌≡◌, ℕ, ◌+◌, ◌-◌, ◌<◌, ◌≤◌, true, cond, List, length, ◌==◌}
+use Rattle.std.specs.Prelude.{◌≡◌, ℕ, ◌+◌, ◌-◌, ◌<◌, ◌≤◌, true, cond, List, length, ◌==◌, None, Option, Some}
 use Rattle.segment.specs.Bytes.{byte_at, word_at}
 use Rattle.segment.specs.Options.{is_mss_option, fast_open_option, is_counted, read_from}
 use Rattle.segment.specs.Remarks.{no_remarks, first_at, with_remark, broken_at}
 use Rattle.segment.specs.declared.options.Codings.{Codings}
-use Rattle.segment.specs.declared.options.Mss.{Mss}
-use Rattle.segment.specs.declared.options.Mss.TheVariants.{NotGiven, Given}
 use Rattle.segment.specs.declared.options.FastOpenOption.{FastOpenOption}
 use Rattle.segment.specs.declared.options.FastOpenOption.TheVariants.{Absent}
 use Rattle.segment.specs.declared.options.Options.{Options}
-use Rattle.segment.specs.declared.options.Places.{Places}
+use Rattle.segment.specs.declared.options.Remarks.{Remarks}
+
+-- what one pass over an area finds: the place of the MSS that is used, and the remarks, which have that of the Fast Open option
+pub record Places : Type 0 where
+  pub mss_at : ℕ
+  pub remarks : Remarks
 
 -- one pass, which has the place of the Fast Open option among the remarks
 abbrev pub no_places : Places
@@ -26,8 +29,8 @@ unfoldable pub places_in : Codings → List ℕ → Places
 places_in g area = read_from (with_places g area) places_broken 0 0 area no_places
 
 -- what begins at a place
-unfoldable pub mss_value_at : List ℕ → ℕ → Mss
-mss_value_at area at = cond (at == 0) NotGiven (Given (word_at area (at + 1)))
+unfoldable pub mss_value_at : List ℕ → ℕ → Option ℕ
+mss_value_at area at = cond (at == 0) None (Some (word_at area (at + 1)))
 
 unfoldable pub fast_at : Codings → List ℕ → ℕ → FastOpenOption
 fast_at g area at = cond (at == 0) Absent (fast_open_option g area (at - 1) (byte_at area at))

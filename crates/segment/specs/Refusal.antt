@@ -1,10 +1,8 @@
 -- Document 01, "Numbers returned", and document 02, Item 3 (14 and 15): why a call is refused, the number of each reason, and their order.
 -- Assumes nothing.
-use Rattle.std.specs.Prelude.{ℕ, Bool, false, cond, ◌||◌, List, [], ◌∷◌, ◌==◌}
+use Rattle.std.specs.Prelude.{ℕ, Bool, false, cond, ◌||◌, List, [], ◌∷◌, ◌==◌, Result, Ok, Err}
 use Rattle.segment.specs.declared.refusal.Refusal.{Refusal}
 use Rattle.segment.specs.declared.refusal.Refusal.TheVariants.{Format, Address, Checksum, Port, Time, Flags, NameInUse, TableFull, NoConnection, Sequence, Output, Range, NotStarted, CutRecord, BadCapture}
-use Rattle.segment.specs.declared.refusal.Check.{Check}
-use Rattle.segment.specs.declared.refusal.Check.TheVariants.{Clear, Refused}
 
 -- the table's first column; its second says when each is given
 abbrev pub number_of : Refusal → ℕ
@@ -42,10 +40,17 @@ abbrev pub applies : Checks → Refusal → Bool
 applies [] r = false
 applies (c ∷ cs) r = cond (same c.0 r) (applies cs r || c.1) (applies cs r)
 
+-- what they come to: clear, or the refusal
+abbrev pub Check : Type 0
+Check = Result Unit Refusal
+
+abbrev pub all_clear : Check
+all_clear = Ok tt
+
 -- the first of some refusals that applies
 abbrev pub first_of : List Refusal → Checks → Check
-first_of [] cs = Clear
-first_of (r ∷ rs) cs = cond (applies cs r) (Refused r) (first_of rs cs)
+first_of [] cs = all_clear
+first_of (r ∷ rs) cs = cond (applies cs r) (Err r) (first_of rs cs)
 
 -- what the checks of a call come to
 abbrev pub refusal : Checks → Check
@@ -53,5 +58,5 @@ refusal cs = first_of order cs
 
 -- the number returned; 0 is done
 abbrev pub check_number : Check → ℕ
-check_number Clear = 0
-check_number (Refused r) = number_of r
+check_number (Ok _) = 0
+check_number (Err r) = number_of r

@@ -19,13 +19,6 @@ pub struct Header {
     pub flags: u8,
 }
 
-// A segment is refused (document 01's number 1) or has a header.
-#[derive(Clone, Copy, Drop)]
-pub enum Shape {
-    Malformed,
-    WellFormed(Header),
-}
-
 // Document 01's opening, reset and completion, and all else.
 #[derive(Clone, Copy, Drop)]
 pub enum Kind {
@@ -41,17 +34,7 @@ pub fn is_malformed(seg: &[u8]) -> bool
     ensures { result ≡ malformed seg.now }
 {
     let n = seg.len();
-    if n < 20 {
-        return true;
-    }
-    if LONGEST_SEGMENT < n {
-        return true;
-    }
-    let offset = (seg[12] / 16) as usize;
-    if offset < 5 {
-        return true;
-    }
-    n < 4 * offset
+    n < 20 || LONGEST_SEGMENT < n || seg[12] / 16 < 5 || n < 4 * (seg[12] / 16) as usize
 }
 
 // The fields of a segment that is long enough to have a header.
@@ -72,50 +55,36 @@ fn fields(seg: &[u8]) -> Header
 
 // The header of a segment, or that it is malformed.
 #[tactic(auto, using(crate::proofs::Malformed::formed), unfolding(crate::specs::Header::shape_of))]
-pub fn read_header(seg: &[u8]) -> Shape
+pub fn read_header(seg: &[u8]) -> Option<Header>
     ensures { result ≡ shape_of seg.now }
 {
     if is_malformed(seg) {
-        return Shape::Malformed;
+        None
+    } else {
+        Some(fields(seg))
     }
-    Shape::WellFormed(fields(seg))
 }
 
 // At most `len` bytes from `at` on.
 pub fn part(s: &[u8], at: usize, len: usize) -> &[u8]
     ensures { result.now ≡ take len (drop at s.now) }
 {
-    let n = s.len();
-    if n < at {
-        return &s[..0];
-    }
-    if n - at < len {
-        return &s[at..];
-    }
-    let end = at + len;
-    &s[at..end]
+    let rest = s.get(at..).unwrap_or(&[]);
+    rest.get(..len).unwrap_or(rest)
 }
 
 // The option area of a segment whose data offset has been read: from byte 20 to the header's end.
 pub fn area_within(seg: &[u8], offset: u8) -> &[u8]
     ensures { result.now ≡ take (4 * offset - 20) (drop 20 seg.now) }
 {
-    let end = 4 * (offset as usize);
-    if end < 20 {
-        return &seg[..0];
-    }
-    part(seg, 20, end - 20)
+    part(seg, 20, (4 * offset as usize).saturating_sub(20))
 }
 
 // The payload of a segment whose data offset has been read.
 pub fn payload_after(seg: &[u8], offset: u8) -> &[u8]
     ensures { result.now ≡ drop (4 * offset) seg.now }
 {
-    let end = 4 * (offset as usize);
-    if seg.len() < end {
-        return &seg[..0];
-    }
-    &seg[end..]
+    seg.get(4 * offset as usize..).unwrap_or(&[])
 }
 
 // The option area, as a part of the segment: at most 40 bytes; empty where the segment is malformed.
@@ -124,9 +93,10 @@ pub fn option_area(seg: &[u8]) -> &[u8]
     ensures { result.now ≡ option_area seg.now }
 {
     if is_malformed(seg) {
-        return &seg[..0];
+        &[]
+    } else {
+        area_within(seg, seg[12] / 16)
     }
-    area_within(seg, seg[12] / 16)
 }
 
 // The payload, as a part of the segment; empty where the segment is malformed.
@@ -135,9 +105,10 @@ pub fn payload(seg: &[u8]) -> &[u8]
     ensures { result.now ≡ payload_of seg.now }
 {
     if is_malformed(seg) {
-        return &seg[..0];
+        &[]
+    } else {
+        payload_after(seg, seg[12] / 16)
     }
-    payload_after(seg, seg[12] / 16)
 }
 
 // The control bits, by their weight in the flags.
@@ -162,10 +133,7 @@ fn has_bit(flags: u8, bit: u8) -> bool
 pub(crate) fn has_syn(seg: &[u8]) -> bool
     ensures { result ≡ has (byte_at seg.now 13) SYN }
 {
-    if seg.len() < 14 {
-        return false;
-    }
-    has_bit(seg[13], SYN)
+    13 < seg.len() && has_bit(seg[13], SYN)
 }
 
 // The kind of segment, by its flags.
@@ -173,25 +141,19 @@ pub(crate) fn has_syn(seg: &[u8]) -> bool
 pub fn kind_of(flags: u8) -> Kind
     ensures { result ≡ kind_of flags }
 {
-    if has_bit(flags, SYN) {
-        if has_bit(flags, ACK) {
-            return Kind::Other;
-        }
-        if has_bit(flags, RST) {
-            return Kind::Other;
-        }
-        if has_bit(flags, FIN) {
-            return Kind::Other;
-        }
-        return Kind::Syn;
+    let bits = (
+        has_bit(flags, SYN),
+        has_bit(flags, ACK),
+        has_bit(flags, RST),
+        has_bit(flags, FIN),
+    );
+    match bits {
+        (true, false, false, false) => Kind::Syn,
+        (true, _, _, _) => Kind::Other,
+        (false, _, true, _) => Kind::Rst,
+        (false, true, false, _) => Kind::Ack,
+        (false, false, false, _) => Kind::Other,
     }
-    if has_bit(flags, RST) {
-        return Kind::Rst;
-    }
-    if has_bit(flags, ACK) {
-        return Kind::Ack;
-    }
-    Kind::Other
 }
 
 // Whether the flags are those of a SYN-ACK.
@@ -199,17 +161,5 @@ pub fn kind_of(flags: u8) -> Kind
 pub fn is_syn_ack(flags: u8) -> bool
     ensures { result ≡ is_syn_ack flags }
 {
-    if !has_bit(flags, SYN) {
-        return false;
-    }
-    if !has_bit(flags, ACK) {
-        return false;
-    }
-    if has_bit(flags, RST) {
-        return false;
-    }
-    if has_bit(flags, FIN) {
-        return false;
-    }
-    true
+    has_bit(flags, SYN) && has_bit(flags, ACK) && !has_bit(flags, RST) && !has_bit(flags, FIN)
 }

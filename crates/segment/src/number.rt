@@ -6,14 +6,14 @@ ghost use Rattle.segment.specs.Bytes.{word, long, word_at, long_at};
 pub fn word16(a: u8, b: u8) -> u16
     ensures { result ≡ word a b }
 {
-    (a as u16) * 256 + (b as u16)
+    u16::from_be_bytes([a, b])
 }
 
 // The number of four bytes.
 pub fn long32(a: u8, b: u8, c: u8, d: u8) -> u32
     ensures { result ≡ long a b c d }
 {
-    (((a as u32) * 256 + (b as u32)) * 256 + (c as u32)) * 256 + (d as u32)
+    u32::from_be_bytes([a, b, c, d])
 }
 
 // The numbers that stand at a place.

@@ -1,8 +1,9 @@
 // The option reader (RFC 9293, 3.1; RFC 7413, 4.1.1 and 9).
-ghost use Rattle.std.specs.Prelude.{◌≡◌, ◌+◌, ◌<◌, ◌≤◌, length};
-ghost use Rattle.segment.specs.Options.{is_mss_option, is_cookie_length, cookie_at, is_in, counts_coding, codings_of, fast_open_option, is_counted, first_mss, cookie_bytes, coding_of};
-ghost use Rattle.segment.specs.Remarks.{no_remarks, is_fast_open, first_at, with_remark, report_in, report_of};
-ghost use Rattle.segment.specs.Places.{mss_value_at, fast_at, places_broken, places_in, MssFits, FastFits};
+ghost use Rattle.std.specs.Prelude.{◌≡◌, ◌+◌, ◌-◌, ◌<◌, ◌≤◌, ◌&&◌, length, nat_le, IfSome};
+ghost use Rattle.std.specs.Option.{is_some};
+ghost use Rattle.segment.specs.Bytes.{byte_at};
+ghost use Rattle.segment.specs.Options.{mss_option, is_cookie_length, cookie_at, is_in, counts_coding, codings_of, fast_open_option, is_counted, first_mss, with_option, cookie_bytes, coding_of};
+ghost use Rattle.segment.specs.Remarks.{no_remarks, is_fast_open, with_remark, report_in, report_of};
 
 use crate::header::{has_syn, option_area, part};
 use crate::number::word_at;
@@ -11,13 +12,6 @@ use crate::number::word_at;
 pub const LEAST_MSS: u32 = 536;
 
 pub const MOST_MSS: u32 = 1460;
-
-// The maximum segment size, if an option gave one.
-#[derive(Clone, Copy, Drop)]
-pub enum Mss {
-    NotGiven,
-    Given(u16),
-}
 
 // How a Fast Open option is coded: as kind 34, or in the older way, as kind 254 with F9 89 behind its length.
 #[derive(Clone, Copy, Drop)]
@@ -48,18 +42,15 @@ pub enum FastOpenOption {
 // The options that count: the first MSS, and the first Fast Open option in a coding that counts.
 #[derive(Clone, Copy, Drop)]
 pub struct Options {
-    pub mss: Mss,
+    pub mss: Option<u16>,
     pub fast: FastOpenOption,
 }
 
 // The first of two, if it was given.
-pub fn first_mss(found: Mss, next: Mss) -> Mss
+pub fn first_mss(found: Option<u16>, next: Option<u16>) -> Option<u16>
     ensures { result ≡ first_mss found next }
 {
-    match found {
-        Mss::NotGiven => next,
-        Mss::Given(v) => Mss::Given(v),
-    }
+    found.or(next)
 }
 
 // Whether a cookie may have n bytes.
@@ -67,13 +58,7 @@ pub fn first_mss(found: Mss, next: Mss) -> Mss
 pub fn is_cookie_length(n: usize) -> bool
     ensures { result ≡ is_cookie_length n }
 {
-    if n < 4 {
-        return false;
-    }
-    if 16 < n {
-        return false;
-    }
-    n % 2 == 0
+    4 <= n && n <= 16 && n % 2 == 0
 }
 
 // An option with n bytes of cookie at a place.
@@ -82,12 +67,12 @@ fn cookie_at(coding: Coding, at: usize, n: usize) -> FastOpenOption
     ensures { result ≡ cookie_at coding at n }
 {
     if n == 0 {
-        return FastOpenOption::Request(coding);
+        FastOpenOption::Request(coding)
+    } else if is_cookie_length(n) {
+        FastOpenOption::Cookie { coding, at, len: n }
+    } else {
+        FastOpenOption::Absent
     }
-    if is_cookie_length(n) {
-        return FastOpenOption::Cookie { coding, at, len: n };
-    }
-    FastOpenOption::Absent
 }
 
 // The codings that count, from whether the older one does.
@@ -95,67 +80,28 @@ pub fn codings_of(older: bool) -> Codings
     ensures { result ≡ codings_of older }
 {
     if older {
-        return Codings::Both;
+        Codings::Both
+    } else {
+        Codings::NewOnly
     }
-    Codings::NewOnly
 }
 
 fn counts_older(codings: Codings) -> bool
     ensures { result ≡ counts_coding codings Coding.Older }
 {
-    match codings {
-        Codings::NewOnly => false,
-        Codings::Both => true,
-    }
-}
-
-// Whether the option is in the older coding. Kind 254 is every experiment's.
-#[tactic(auto, unfolding(crate::specs::Options::is_in))]
-fn is_older(area: &[u8], i: usize, len: usize) -> bool
-    requires { (2 ≤ len) × (i + len ≤ length area.now) }
-    ensures { result ≡ is_in Coding.Older area.now i len }
-{
-    if area[i] != 254 {
-        return false;
-    }
-    if len < 4 {
-        return false;
-    }
-    if area[i + 2] != 0xF9 {
-        return false;
-    }
-    area[i + 3] == 0x89
-}
-
-#[tactic(auto, unfolding(crate::specs::Options::fast_open_option, crate::specs::Options::option_in, crate::specs::Options::is_in))]
-fn fast_open_option(codings: Codings, area: &[u8], i: usize, len: usize) -> FastOpenOption
-    requires { (2 ≤ len) × (i + len ≤ length area.now) }
-    ensures { result ≡ fast_open_option codings area.now i len }
-{
-    if area[i] == 34 {
-        return cookie_at(Coding::New, i + 2, len - 2);
-    }
-    if counts_older(codings) {
-        if is_older(area, i, len) {
-            return cookie_at(Coding::Older, i + 4, len - 4);
-        }
-    }
-    FastOpenOption::Absent
+    matches!(codings, Codings::Both)
 }
 
 // Whether there is an option.
 pub fn is_counted(fast: FastOpenOption) -> bool
     ensures { result ≡ is_counted fast }
 {
-    match fast {
-        FastOpenOption::Absent => false,
-        FastOpenOption::Request(_) => true,
-        FastOpenOption::Cookie { .. } => true,
-    }
+    !matches!(fast, FastOpenOption::Absent)
 }
 
 // What the reader remarks on an area besides the options that count: how many Fast Open options it skipped for a bad length, where the used
-// one began, and where the reading broke off at a length that does not fit. Places are a kind byte's and count from 1; 0 is none.
+// one began, and where the reading broke off at a length that does not fit. Places are a kind byte's and count from 1; 0 is none: they are
+// numbers as the replay lines print them.
 #[derive(Clone, Copy, Drop)]
 pub struct Remarks {
     pub skipped: usize,
@@ -181,159 +127,134 @@ pub fn no_remarks() -> Remarks
     }
 }
 
-// Whether the option is a Fast Open option in a coding that counts, whatever its length.
-#[tactic(auto, unfolding(crate::specs::Remarks::is_fast_open, crate::specs::Options::is_in))]
-fn is_fast_open(codings: Codings, area: &[u8], i: usize, len: usize) -> bool
-    requires { (2 ≤ len) × (i + len ≤ length area.now) }
-    ensures { result ≡ is_fast_open codings area.now i len }
-{
-    let kind = area[i];
-    if kind == 34 {
-        return true;
-    }
-    if counts_older(codings) {
-        return is_older(area, i, len);
-    }
-    false
+// An option of an area: `len` bytes from `at` on, its kind and its length first.
+#[derive(Clone, Copy, Drop)]
+struct Found<'a> {
+    area: &'a [u8],
+    at: usize,
+    len: usize,
+    ghost fits: { (2 ≤ len) × (at + len ≤ length area.now) },
 }
 
-// The remarks, with the option of `len` bytes at `i` besides.
-fn remark_option(
-    mut remarks: Remarks,
-    codings: Codings,
-    area: &[u8],
-    i: usize,
-    len: usize,
-) -> Remarks
-    requires le_len { (2 ≤ len) × (i + len ≤ length area.now) }
-    requires skipped_le_i { remarks.skipped ≤ i }
-    ensures { result ≡ with_remark codings area.now remarks i len }
-{
-    if is_fast_open(codings, area, i, len) {
-        if is_counted(fast_open_option(codings, area, i, len)) {
-            if remarks.used == 0 {
-                remarks.used = i + 1;
-            }
+impl Found<'_> {
+    // The segment size that it gives, if it is an MSS that counts.
+    #[tactic(auto, unfolding(crate::specs::Options::is_mss_option, crate::specs::Options::mss_option))]
+    fn mss(self) -> Option<u16>
+        ensures { result ≡ mss_option self.entry.area.now self.entry.at self.entry.len }
+    {
+        if self.area[self.at] == 2 && self.len == 4 {
+            Some(word_at(self.area, self.at + 2))
         } else {
+            None
+        }
+    }
+
+    // Whether it is in the older coding. Kind 254 is every experiment's.
+    #[tactic(auto, unfolding(crate::specs::Options::is_in))]
+    fn is_older(self) -> bool
+        ensures { result ≡ is_in Coding.Older self.entry.area.now self.entry.at self.entry.len }
+    {
+        let Found { area, at, len } = self;
+        area[at] == 254 && 4 <= len && area[at + 2] == 0xF9 && area[at + 3] == 0x89
+    }
+
+    // Whether it is a Fast Open option in a coding that counts, whatever its length.
+    #[tactic(auto, unfolding(crate::specs::Remarks::is_fast_open, crate::specs::Options::is_in))]
+    fn is_fast_open(self, codings: Codings) -> bool
+        ensures { result ≡ is_fast_open codings self.entry.area.now self.entry.at self.entry.len }
+    {
+        let kind = self.area[self.at];
+        kind == 34 || counts_older(codings) && self.is_older()
+    }
+
+    // The Fast Open option that it is, if it counts.
+    #[tactic(auto, unfolding(crate::specs::Options::fast_open_option, crate::specs::Options::option_in, crate::specs::Options::is_in))]
+    fn fast_open(self, codings: Codings) -> FastOpenOption
+        ensures { result ≡ fast_open_option codings self.entry.area.now self.entry.at self.entry.len }
+    {
+        let Found { area, at, len } = self;
+        if area[at] == 34 {
+            cookie_at(Coding::New, at + 2, len - 2)
+        } else if counts_older(codings) && self.is_older() {
+            cookie_at(Coding::Older, at + 4, len - 4)
+        } else {
+            FastOpenOption::Absent
+        }
+    }
+}
+
+// The option at a place; none where its length byte is missing, is less than 2, or goes past the area.
+fn option_at(area: &[u8], at: usize) -> Option<Found<'_>>
+    requires { at < length area.now }
+    ensures variant { is_some result ≡ (nat_le 2 (byte_at area.now (at + 1)) && nat_le (byte_at area.now (at + 1)) (length area.now - at)) }
+    ensures found { IfSome result (λ o. (o.area.now ≡ area.now) × (o.at ≡ at) × (o.len ≡ byte_at area.now (at + 1))) }
+{
+    let len = *area.get(at + 1)? as usize;
+    if 2 <= len && len <= area.len() - at {
+        Some(Found { area, at, len })
+    } else {
+        None
+    }
+}
+
+// What is found so far, with an option besides: the first of each that counts is used.
+#[tactic(auto, unfolding(crate::specs::Options::with_option))]
+fn with_option(found: Options, codings: Codings, option: Found<'_>) -> Options
+    ensures { result ≡ with_option codings option.entry.area.now found option.entry.at option.entry.len }
+{
+    let fast = if is_counted(found.fast) {
+        found.fast
+    } else {
+        option.fast_open(codings)
+    };
+    Options {
+        mss: first_mss(found.mss, option.mss()),
+        fast,
+    }
+}
+
+// The remarks so far, with an option besides.
+#[tactic(auto, using(crate::proofs::Remarks::other_remark), unfolding(crate::specs::Remarks::with_remark, crate::specs::Remarks::is_skipped))]
+fn with_remark(mut remarks: Remarks, codings: Codings, option: Found<'_>) -> Remarks
+    requires { remarks.skipped ≤ option.at }
+    ensures { result ≡ with_remark codings option.entry.area.now remarks option.entry.at option.entry.len }
+{
+    if option.is_fast_open(codings) {
+        if !is_counted(option.fast_open(codings)) {
             remarks.skipped += 1;
+        } else if remarks.used == 0 {
+            remarks.used = option.at + 1;
         }
     }
     remarks
-}
-
-// What one pass over an area finds: the place of the MSS that is used, and the remarks, which have that of the Fast Open option.
-#[derive(Drop)]
-struct Places {
-    mss_at: usize,
-    remarks: Remarks,
-}
-
-// Whether the option is an MSS that counts.
-#[tactic(auto, unfolding(crate::specs::Options::is_mss_option))]
-fn is_mss(area: &[u8], i: usize, len: usize) -> bool
-    requires { (2 ≤ len) × (i + len ≤ length area.now) }
-    ensures { result ≡ is_mss_option area.now i len }
-{
-    if area[i] == 2 {
-        return len == 4;
-    }
-    false
-}
-
-// Where the MSS that is used begins, with the option of `len` bytes at `i` besides.
-fn first_mss_at(mss_at: usize, area: &[u8], i: usize, len: usize) -> usize
-    requires { (2 ≤ len) × (i + len ≤ length area.now) }
-    ensures { result ≡ first_at mss_at (is_mss_option area.now i len) i }
-{
-    if mss_at == 0 {
-        if is_mss(area, i, len) {
-            return i + 1;
-        }
-    }
-    mss_at
-}
-
-// The reading breaks off at `i`; what was found before stands.
-fn break_off(mss_at: usize, mut remarks: Remarks, i: usize) -> Places
-    requires { i < 18446744073709551615 }
-    ensures { result ≡ places_broken (record { mss_at = mss_at; remarks = remarks }) i }
-{
-    remarks.broken = i + 1;
-    Places { mss_at, remarks }
-}
-
-// Goes over an option area.
-fn find_options(codings: Codings, area: &[u8]) -> Places
-    ensures { result ≡ places_in codings area.now }
-{
-    let n = area.len();
-    let mut mss_at: usize = 0;
-    let mut remarks = no_remarks();
-    let mut i = 0;
-    while i < n {
-        let kind = area[i];
-        if kind == 0 {
-            return Places { mss_at, remarks };
-        }
-        if kind == 1 {
-            i += 1;
-            continue;
-        }
-        if n - i < 2 {
-            return break_off(mss_at, remarks, i);
-        }
-        let len = area[i + 1] as usize;
-        if len < 2 {
-            return break_off(mss_at, remarks, i);
-        }
-        if n - i < len {
-            return break_off(mss_at, remarks, i);
-        }
-        let size = first_mss_at(mss_at, area, i, len);
-        let more = remark_option(remarks, codings, area, i, len);
-        mss_at = size;
-        remarks = more;
-        i += len;
-    }
-    Places { mss_at, remarks }
-}
-
-// What begins at a place.
-#[tactic(auto, unfolding(crate::specs::Places::mss_value_at))]
-fn mss_from(area: &[u8], at: usize) -> Mss
-    requires { MssFits area.now at }
-    ensures { result ≡ mss_value_at area.now at }
-{
-    if 0 < at {
-        return Mss::Given(word_at(area, at + 1));
-    }
-    Mss::NotGiven
-}
-
-#[tactic(auto, unfolding(crate::specs::Places::fast_at))]
-fn fast_from(codings: Codings, area: &[u8], at: usize) -> FastOpenOption
-    requires { FastFits codings area.now at }
-    ensures { result ≡ fast_at codings area.now at }
-{
-    if 0 < at {
-        let len = area[at] as usize;
-        return fast_open_option(codings, area, at - 1, len);
-    }
-    FastOpenOption::Absent
 }
 
 // Reads an option area. Where a length does not fit, the reading breaks off and what was found before stands.
 pub fn read_options(codings: Codings, area: &[u8]) -> Report
     ensures { result ≡ report_in codings area.now }
 {
-    let found = find_options(codings, area);
-    let remarks = found.remarks;
-    let mss = mss_from(area, found.mss_at);
-    let fast = fast_from(codings, area, remarks.used);
-    Report {
-        options: Options { mss, fast },
-        remarks,
+    let mut options = Options {
+        mss: None,
+        fast: FastOpenOption::Absent,
+    };
+    let mut remarks = no_remarks();
+    let mut at = 0;
+    while at < area.len() {
+        match area[at] {
+            0 => return Report { options, remarks },
+            1 => at += 1,
+            _ => {
+                let Some(option) = option_at(area, at) else {
+                    remarks.broken = at + 1;
+                    return Report { options, remarks };
+                };
+                options = with_option(options, codings, option);
+                remarks = with_remark(remarks, codings, option);
+                at += option.len;
+            }
+        }
     }
+    Report { options, remarks }
 }
 
 // Reads the options of a segment: without SYN no Fast Open option counts and nothing is remarked, and a malformed segment has no options.
@@ -342,16 +263,15 @@ pub fn segment_options(codings: Codings, seg: &[u8]) -> Report
 {
     let found = read_options(codings, option_area(seg));
     if has_syn(seg) {
-        return found;
-    }
-    let options = found.options;
-    let mss = options.mss;
-    Report {
-        options: Options {
-            mss,
-            fast: FastOpenOption::Absent,
-        },
-        remarks: no_remarks(),
+        found
+    } else {
+        Report {
+            options: Options {
+                mss: found.options.mss,
+                fast: FastOpenOption::Absent,
+            },
+            remarks: no_remarks(),
+        }
     }
 }
 
@@ -361,8 +281,7 @@ pub fn cookie(area: &[u8], fast: FastOpenOption) -> &[u8]
 {
     match fast {
         FastOpenOption::Cookie { at, len, .. } => part(area, at, len),
-        FastOpenOption::Request(_) => &area[..0],
-        FastOpenOption::Absent => &area[..0],
+        FastOpenOption::Request(_) | FastOpenOption::Absent => &[],
     }
 }
 

@@ -22,32 +22,29 @@ pub enum Refusal {
     BadCapture,
 }
 
-// What the checks of a call come to.
-#[derive(Clone, Copy, Drop)]
-pub enum Check {
-    Clear,
-    Refused(Refusal),
-}
-
 // The number of a refusal, 1 to 15.
-pub fn number(why: Refusal) -> u8
-    ensures { result ≡ number_of why }
-{
-    match why {
-        Refusal::Format => 1,
-        Refusal::Address => 2,
-        Refusal::Checksum => 3,
-        Refusal::Port => 4,
-        Refusal::Time => 5,
-        Refusal::Flags => 6,
-        Refusal::NameInUse => 7,
-        Refusal::TableFull => 8,
-        Refusal::NoConnection => 9,
-        Refusal::Sequence => 10,
-        Refusal::Output => 11,
-        Refusal::Range => 12,
-        Refusal::NotStarted => 13,
-        Refusal::CutRecord => 14,
-        Refusal::BadCapture => 15,
+impl From<Refusal> for u8 {
+    ghost from_gives = { λ why n. n ≡ number_of why };
+
+    fn from(why: Refusal) -> u8
+        ensures { result ≡ number_of why }
+    {
+        match why {
+            Refusal::Format => 1,
+            Refusal::Address => 2,
+            Refusal::Checksum => 3,
+            Refusal::Port => 4,
+            Refusal::Time => 5,
+            Refusal::Flags => 6,
+            Refusal::NameInUse => 7,
+            Refusal::TableFull => 8,
+            Refusal::NoConnection => 9,
+            Refusal::Sequence => 10,
+            Refusal::Output => 11,
+            Refusal::Range => 12,
+            Refusal::NotStarted => 13,
+            Refusal::CutRecord => 14,
+            Refusal::BadCapture => 15,
+        }
     }
 }

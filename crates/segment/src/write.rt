@@ -3,7 +3,8 @@
 // A write leaves its bytes at the output's start and the later bytes as they were, and returns how many bytes it wrote. Nothing is
 // written, and 0 returned, where the output is too short, the addresses are not of one family, a Fast Open option is asked for that
 // may not have a cookie of that length, or the segment would have more than 1,520 bytes (`can_write` in specs/Write.antt).
-ghost use Rattle.std.specs.Prelude.{◌≡◌, ◌+◌, ◌-◌, ◌<◌, ◌≤◌, true, ◌++◌, length, take, drop, replicate, if◌then◌else◌};
+ghost use Rattle.std.specs.Prelude.{◌≡◌, ◌+◌, ◌-◌, ◌<◌, ◌≤◌, true, ◌++◌, length, take, drop, replicate, if◌then◌else◌, IfSome};
+ghost use Rattle.std.specs.Bool.{then_some};
 ghost use Rattle.segment.specs.Checksum.{ones_sum, complement, one_family, pseudo_header};
 ghost use Rattle.segment.specs.Options.{prefix_length};
 ghost use Rattle.segment.specs.Write.{prefix_bytes, padding, option_allowed, option_bytes, option_length, header_bytes, options_for, length_for, can_write, written, syn_ack_bytes, opening_bytes};
@@ -76,9 +77,8 @@ fn pad(out: &mut [u8], at: usize) -> usize
     ensures value { result ≡ at + padding at }
     ensures out_after { out.new ≡ take at out.old ++ (replicate (padding at) 1 ++ drop (at + padding at) out.old) }
 {
-    let ones = [1u8, 1u8, 1u8];
     let n = (4 - at % 4) % 4;
-    append(out, at, &ones[..n])
+    append(out, at, &[1; 3][..n])
 }
 
 // What stands before a cookie of n bytes.
@@ -88,14 +88,8 @@ fn put_prefix(out: &mut [u8], at: usize, coding: Coding, n: usize) -> usize
     ensures out_after { out.new ≡ take at out.old ++ (prefix_bytes coding n ++ drop (at + length (prefix_bytes coding n)) out.old) }
 {
     match coding {
-        Coding::New => {
-            let new = [34, (n + 2) as u8];
-            append(out, at, &new)
-        }
-        Coding::Older => {
-            let older = [254, (n + 4) as u8, 0xF9, 0x89];
-            append(out, at, &older)
-        }
+        Coding::New => append(out, at, &[34, (n + 2) as u8]),
+        Coding::Older => append(out, at, &[254, (n + 4) as u8, 0xF9, 0x89]),
     }
 }
 
@@ -105,8 +99,8 @@ fn put_options(out: &mut [u8], mss: u16, fast: bool, coding: Coding, cookie: &[u
     ensures value { result ≡ length (option_bytes mss fast coding cookie.now) }
     ensures out_after { out.new ≡ overwrite (option_bytes mss fast coding cookie.now) out.old }
 {
-    let size = [2, 4, (mss / 256 % 256) as u8, (mss % 256) as u8];
-    let a = append(out, 0, &size);
+    let [high, low] = mss.to_be_bytes();
+    let a = append(out, 0, &[2, 4, high, low]);
     if !fast {
         return a;
     }
@@ -133,25 +127,30 @@ fn header(f: Outgoing, offset: u8, check: u16) -> [u8; 20]
     requires { offset < 16 }
     ensures { result ≡ header_bytes f offset check }
 {
+    let source = f.source.to_be_bytes();
+    let dest = f.dest.to_be_bytes();
+    let seq = f.seq.to_be_bytes();
+    let ack = f.ack.to_be_bytes();
+    let check = check.to_be_bytes();
     [
-        (f.source / 256 % 256) as u8,
-        (f.source % 256) as u8,
-        (f.dest / 256 % 256) as u8,
-        (f.dest % 256) as u8,
-        (f.seq / 16777216 % 256) as u8,
-        (f.seq / 65536 % 256) as u8,
-        (f.seq / 256 % 256) as u8,
-        (f.seq % 256) as u8,
-        (f.ack / 16777216 % 256) as u8,
-        (f.ack / 65536 % 256) as u8,
-        (f.ack / 256 % 256) as u8,
-        (f.ack % 256) as u8,
+        source[0],
+        source[1],
+        dest[0],
+        dest[1],
+        seq[0],
+        seq[1],
+        seq[2],
+        seq[3],
+        ack[0],
+        ack[1],
+        ack[2],
+        ack[3],
         offset * 16,
         f.flags,
         255,
         255,
-        (check / 256 % 256) as u8,
-        (check % 256) as u8,
+        check[0],
+        check[1],
         0,
         0,
     ]
@@ -181,23 +180,37 @@ fn prefix_length(coding: Coding) -> usize
     }
 }
 
+// Whether a segment may have these options: a Fast Open option has no cookie, or n bytes of one.
+#[tactic(auto, unfolding(crate::specs::Write::option_allowed))]
+fn is_option_allowed(fast: bool, n: usize) -> bool
+    ensures { result ≡ option_allowed fast n }
+{
+    !fast || n == 0 || is_cookie_length(n)
+}
+
+// How many bytes of options a segment has, with a cookie of n bytes where there is a Fast Open option; none where it may not have them.
+fn allowed_length(fast: bool, coding: Coding, n: usize) -> Option<usize>
+    ensures value { result ≡ then_some (option_allowed fast n) (option_length fast coding n) }
+    ensures most { IfSome result (λ m. m ≤ 24) }
+{
+    if !is_option_allowed(fast, n) {
+        return None;
+    }
+    if fast {
+        Some(4 + (n + prefix_length(coding)).div_ceil(4) * 4)
+    } else {
+        Some(4)
+    }
+}
+
 // How many bytes of options are written, with a cookie of n bytes where there is a Fast Open option; 0 where a segment may not have them.
 pub fn option_length(fast: bool, coding: Coding, n: usize) -> usize
     ensures { (result ≡ (if option_allowed fast n then option_length fast coding n else 0)) × (result ≤ 24) }
 {
-    if !fast {
-        return 4;
-    }
-    if n == 0 {
-        return 8;
-    }
-    if !is_cookie_length(n) {
-        return 0;
-    }
-    4 + (n + prefix_length(coding) + 3) / 4 * 4
+    allowed_length(fast, coding, n).unwrap_or(0)
 }
 
-// The length of a segment that can be written to an output of this length, else 0.
+// The length of a segment that can be written to an output of this length.
 fn writable_length(
     src: &[u8],
     dst: &[u8],
@@ -205,25 +218,18 @@ fn writable_length(
     cookie: &[u8],
     payload: &[u8],
     out_len: usize,
-) -> usize
-    ensures { result ≡ (if can_write src.now dst.now f cookie.now payload.now out_len then length_for f cookie.now payload.now else 0) }
+) -> Option<usize>
+    ensures { result ≡ then_some (can_write src.now dst.now f cookie.now payload.now out_len) (length_for f cookie.now payload.now) }
 {
     if !is_one_family(src, dst) {
-        return 0;
+        return None;
     }
-    let coding = f.coding;
-    let m = option_length(f.fast, coding, cookie.len());
-    if m == 0 {
-        return 0;
-    }
+    let m = allowed_length(f.fast, f.coding, cookie.len())?;
     if MOST_BODY - m < payload.len() {
-        return 0;
+        return None;
     }
     let n = 20 + m + payload.len();
-    if out_len < n {
-        return 0;
-    }
-    n
+    (n <= out_len).then_some(n)
 }
 
 // Writes a segment; nothing, and returns 0, where it cannot be written.
@@ -238,10 +244,9 @@ fn write_segment(
     ensures value { result ≡ length (written src.now dst.now f cookie.now payload.now (length out.old)) }
     ensures out_after { out.new ≡ overwrite (written src.now dst.now f cookie.now payload.now (length out.old)) out.old }
 {
-    let n = writable_length(src, dst, f, cookie, payload, out.len());
-    if n == 0 {
+    let Some(n) = writable_length(src, dst, f, cookie, payload, out.len()) else {
         return 0;
-    }
+    };
     let m = put_body(out, f, cookie, payload);
     put_header(out, src, dst, f, ((20 + m) / 4) as u8, n);
     n

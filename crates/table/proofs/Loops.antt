@@ -1,32 +1,17 @@
--- The loops over the slots, which stand in the calls: the scan, the search for a name alone, and the count of one address. Assumes nothing.
+-- A search for a name that goes slot by slot, and a count of one address's slots. Assumes nothing.
 use Rattle.std.proofs.Common.{◌≡◌, ℕ, ◌+◌, ◌<◌, ◌≤◌, Bool, true, false, List, length, get_or, sym, ◌∙◌, arith}
 use Rattle.lists.proofs.FirstIndex.{Searched, searched_start, searched_on, searched_found, searched_end}
 use Rattle.protocol.specs.Table.{holds_peer, pends_from, pending_from, scan_of}
-use Rattle.table.specs.Scan.{count_if, scan_with, empty_scan}
 use Rattle.protocol.specs.declared.slots.Slot.{Slot}
-use Rattle.protocol.specs.declared.slots.Scan.{Scan}
-use Rattle.table.proofs.ScanOf.{ScannedTo, scan_start, scan_on, scan_end, CountedTo, counted_start, counted_next, counted-end}
+use Rattle.table.specs.Scan.{count_if}
+use Rattle.table.proofs.ScanOf.{CountedTo, counted_start, counted_next, counted-end}
 
 module _ (t : ℕ) (b : List ℕ) (p : ℕ) (slots : List Slot) where
-  -- What is known at place i of the table
-  abbrev pub ScanLoop : ℕ → Scan → Type 0
-  ScanLoop i scan = (i ≤ 64) × ScannedTo t b p slots i scan
-
   abbrev pub SearchLoop : ℕ → Type 0
   SearchLoop i = (i ≤ 64) × Searched (holds_peer t b p) slots i
 
   module _ (full : length slots ≡ 64) where
-    -- The scan: at its start, one slot further, and past the table
-    pub scan_loop_start : (scan : Scan) → scan ≡ empty_scan → ScanLoop 0 scan
-    scan_loop_start scan e = rw e (omega arith, scan_start t b p slots full)
-
-    pub scan_loop_on : (i : ℕ) (scan next : Scan) (d : Slot) → i < 64 → ScanLoop i scan → next ≡ scan_with scan i t b p (get_or slots i d) → ScanLoop (i + 1) next
-    scan_loop_on i scan next d h k e = (omega arith, scan_on t b p slots i scan next d full (omega arith) k.1 e)
-
-    pub scan_loop_end : (i : ℕ) (scan : Scan) → 64 ≤ i → ScanLoop i scan → scan ≡ scan_of t b p slots
-    scan_loop_end i scan h k = scan_end t b p slots i scan (omega arith) k.1
-
-    -- The search: at its start, one slot further, past the table, and at the name
+    -- at its start, one slot further, past the table, and at the name
     pub search_start : SearchLoop 0
     search_start = (omega arith, searched_start (holds_peer t b p) slots)
 

@@ -1,26 +1,25 @@
 -- One scan of the table finds `scan_of`. Assumes nothing.
-use Rattle.std.proofs.Common.{◌≡◌, ℕ, suc, ◌+◌, ◌<◌, ◌≤◌, Bool, true, false, cond, not, ltb, List, [], ◌∷◌, length, get_or, drop, sym, refl, ◌∙◌, add-one, arith, drop_of_length-le, drop-cons, ltb-false, ltb-true, lt-ltb}
-use mathlib.Core.Bool.{false≢true}
-use lib.ListN.{get_or-eq_default}
+use Rattle.std.specs.Prelude.{Option, None, Some}
+use Rattle.std.specs.Option.{option_or}
+use Rattle.std.specs.List.{count_by}
+use Rattle.std.proofs.lemmas.List.Sums.{sum_by-cons}
+use Rattle.std.proofs.Common.{◌≡◌, ℕ, suc, ◌+◌, ◌<◌, ◌≤◌, Bool, true, false, cond, not, List, [], ◌∷◌, length, get_or, drop, sym, refl, ◌∙◌, add-one, arith, drop_of_length-le, drop-cons, lt-ltb}
 use Rattle.lists.specs.Lists.{bit, tally, first_index}
 use Rattle.lists.proofs.Sums.{bit-most, present}
 use Rattle.lists.proofs.Places.{Counted, counted-on, counted_all}
 use Rattle.endpoint.specs.Address.{same_name}
-use Rattle.protocol.specs.Table.{is_live, is_pending, is_free, free_slot, holds_peer, scan_of}
-use Rattle.table.specs.Scan.{first_place, count_if, scan_with, empty_scan, index_in_table, slot_found}
+use Rattle.protocol.specs.Table.{is_live, is_pending, free_slot, holds_peer, scan_of}
+use Rattle.table.specs.Scan.{place_of, found, first_place, count_if, scan_with, empty_scan}
 use Rattle.protocol.specs.declared.slots.Slot.{Slot}
-use Rattle.protocol.specs.declared.slots.Scan.{Scan}
+use Rattle.table.specs.declared.scan.Scan.{Scan}
 use Rattle.protocol.proofs.Table.{idle, not_live, live}
 
 -- One slot: whether it is live, then its name
 module _ (t : ℕ) (b : List ℕ) (port : ℕ) (s : Slot) (scan : Scan) (i : ℕ) where
   -- a test that fails leaves the place found before
-  stays : (found : ℕ) → found ≡ first_place found i false
-  stays found = go (ltb found 64)
-    where
-      go : (x : Bool) → found ≡ cond x found found
-      go true = refl
-      go false = refl
+  stays : (found : Option ℕ) → found ≡ first_place found i false
+  stays None = refl
+  stays (Some x) = refl
 
   pub scan_free : is_live t s.status ≡ false
       → record { place = scan.place; free = first_place scan.free i true; pending = scan.pending } ≡ scan_with scan i t b port s
@@ -41,38 +40,42 @@ module _ (t : ℕ) (b : List ℕ) (port : ℕ) (s : Slot) (scan : Scan) (i : ℕ
 
 module _ (p : Slot → Bool) where
   -- the first place where the test passes, from place i on, where `found` was found before
-  pub first_from : ℕ → List Slot → ℕ → ℕ
+  pub first_from : ℕ → List Slot → Option ℕ → Option ℕ
   first_from i [] found = found
   first_from i (s ∷ ss) found = first_from (suc i) ss (first_place found i (p s))
 
   -- a place that was found before i stays; where none was, the first from i on is it
-  first_found : (i : ℕ) (ss : List Slot) (found : ℕ) → i + length ss ≡ 64 → found ≤ 64
-      → first_from i ss found ≡ cond (ltb found 64) found (i + first_index p ss)
+  first_found : (i : ℕ) (ss : List Slot) (found : Option ℕ) → i + length ss ≡ 64 → first_from i ss found ≡ option_or found (place_of (i + first_index p ss))
   unfolding first_from
-  first_found i [] found n h = go (ltb found 64) refl
+  first_found i [] (Some x) n = refl
+  first_found i [] None n =
+      let past : i + 0 ≡ 64 = omega arith in
+      rw past refl
+  first_found i (s ∷ ss) (Some x) n = first_found (suc i) ss (Some x) (omega arith)
+  first_found i (s ∷ ss) None n = go (λ f. first_found (suc i) ss f (omega arith)) (p s)
     where
-      go : (b : Bool) → ltb found 64 ≡ b → found ≡ cond b found (i + 0)
-      go true e = refl
-      go false e = omega (arith, ltb-false found 64 e)
-  first_found i (s ∷ ss) found n h = go (λ f k. first_found (suc i) ss f (omega arith) k) (ltb found 64) refl (p s)
-    where
-      go : ((f : ℕ) → f ≤ 64 → first_from (suc i) ss f ≡ cond (ltb f 64) f (suc i + first_index p ss)) → (b : Bool) → ltb found 64 ≡ b → (q : Bool)
-          → first_from (suc i) ss (cond b found (cond q i found)) ≡ cond b found (i + cond q 0 (suc (first_index p ss)))
-      go more true e q = more found h ∙ rw e
-      go more false e true = more i (omega arith) ∙ (rw (lt-ltb i 64 (omega arith)) (omega arith))
-      go more false e false = more found h ∙ (rw e (omega arith))
+      go : ((f : Option ℕ) → first_from (suc i) ss f ≡ option_or f (place_of (suc i + first_index p ss))) → (q : Bool)
+          → first_from (suc i) ss (first_place None i q) ≡ place_of (i + cond q 0 (suc (first_index p ss)))
+      go more true =
+          let here : i + 0 ≡ i = omega arith in
+          more (Some i) ∙ rw (here, lt-ltb i 64 (omega arith)) refl
+      go more false =
+          let next : suc i + first_index p ss ≡ i + suc (first_index p ss) = omega arith in
+          more None ∙ rw next refl
 
   -- from the start
-  first-start : (ss : List Slot) → length ss ≡ 64 → first_from 0 ss 64 ≡ first_index p ss
-  first-start ss n = omega (arith, first_found 0 ss 64 (omega arith) (omega arith))
+  first-start : (ss : List Slot) → length ss ≡ 64 → first_from 0 ss None ≡ place_of (first_index p ss)
+  first-start ss n =
+      let all : 0 + first_index p ss ≡ first_index p ss = omega arith in
+      first_found 0 ss None (omega arith) ∙ rw all refl
 
   -- one slot further
-  first_on : (ss : List Slot) (i found x : ℕ) → i < length ss → first_from i (drop i ss) found ≡ x
+  first_on : (ss : List Slot) (i : ℕ) (found x : Option ℕ) → i < length ss → first_from i (drop i ss) found ≡ x
       → first_from (i + 1) (drop (i + 1) ss) (first_place found i (p (get_or ss i free_slot))) ≡ x
   unfolding first_from
   first_on ss i found x h e = rw add-one (rw (drop-cons ss i free_slot h) at e)
 
-  first-end : (ss : List Slot) (i found x : ℕ) → length ss ≤ i → first_from i (drop i ss) found ≡ x → found ≡ x
+  first-end : (ss : List Slot) (i : ℕ) (found x : Option ℕ) → length ss ≤ i → first_from i (drop i ss) found ≡ x → found ≡ x
   unfolding first_from
   first-end ss i found x h e = rw (drop_of_length-le ss h) at e
 
@@ -99,6 +102,15 @@ module _ (p : Slot → Bool) (slots : List Slot) where
   pub counted-end : (i n : ℕ) → length slots ≤ i → CountedTo i n → n ≡ tally p slots
   counted-end i n h k = counted_all p slots i h n k.passed
 
+-- as std counts them
+pub counted : {A : Type 0} (p : A → Bool) (xs : List A) → count_by p xs ≡ tally p xs
+counted p [] = refl
+counted p (x ∷ xs) = sum_by-cons (λ y. cond (p y) 1 0) x xs ∙ (rw (counted p xs) (go (p x)))
+  where
+    go : (here : Bool) → cond here 1 0 + tally p xs ≡ bit here + tally p xs
+    go true = refl
+    go false = refl
+
 module _ (t : ℕ) (b : List ℕ) (port : ℕ) (slots : List Slot) where
   abbrev vacant : Slot → Bool
   vacant s = not (is_live t s.status)
@@ -108,8 +120,8 @@ module _ (t : ℕ) (b : List ℕ) (port : ℕ) (slots : List Slot) where
 
   -- what is known when the scan has come to place i
   pub record ScannedTo (i : ℕ) (scan : Scan) : Type 0 where
-    pub place : first_from (holds_peer t b port) i (drop i slots) scan.place ≡ first_index (holds_peer t b port) slots
-    pub free : first_from vacant i (drop i slots) scan.free ≡ first_index vacant slots
+    pub place : first_from (holds_peer t b port) i (drop i slots) scan.place ≡ place_of (first_index (holds_peer t b port) slots)
+    pub free : first_from vacant i (drop i slots) scan.free ≡ place_of (first_index vacant slots)
     pub pending : CountedTo pends slots i scan.pending
 
   pub scan_start : length slots ≡ 64 → ScannedTo 0 empty_scan
@@ -124,27 +136,9 @@ module _ (t : ℕ) (b : List ℕ) (port : ℕ) (slots : List Slot) where
         pending = counted_next pends slots i scan.pending _ free_slot n h k.pending refl refl;
       }
 
-  pub scan_end : (i : ℕ) (scan : Scan) → length slots ≤ i → ScannedTo i scan → scan ≡ scan_of t b port slots
+  pub scan_end : (i : ℕ) (scan : Scan) → length slots ≤ i → ScannedTo i scan → scan ≡ found (scan_of t b port slots)
   scan_end i scan h k =
       let p = first-end (holds_peer t b port) slots i scan.place _ h k.place in
       let f = first-end vacant slots i scan.free _ h k.free in
       let n = counted-end pends slots i scan.pending h k.pending in
       λ j. record { place = p j; free = f j; pending = n j }
-
--- The slot at a place, read in the table; and a slot that is not free stands in it.
-module _ (slots : List Slot) (i : ℕ) (n : length slots ≡ 64) where
-  pub slot_read : {at : ℕ} {s r : Slot} → at ≡ index_in_table i → s ≡ get_or slots at free_slot → r ≡ slot_found i s → r ≡ get_or slots i free_slot
-  slot_read ea es er = er ∙ (rw (es, ea) (go (ltb i 64) refl))
-    where
-      go : (b : Bool) → ltb i 64 ≡ b → cond b (get_or slots (cond b i 0) free_slot) free_slot ≡ get_or slots i free_slot
-      go true e = refl
-      go false e = sym (get_or-eq_default slots free_slot (omega (arith, ltb-false i 64 e)))
-
-  pub in_table : is_free (get_or slots i free_slot).status ≡ false → i < 64
-  in_table e = go (ltb i 64) refl
-    where
-      go : (b : Bool) → ltb i 64 ≡ b → i < 64
-      go true q = ltb-true i 64 q
-      go false q =
-          let past : get_or slots i free_slot ≡ free_slot = get_or-eq_default slots free_slot (omega (arith, ltb-false i 64 q)) in
-          absurd (false≢true (sym (rw past at e)))

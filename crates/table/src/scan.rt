@@ -1,55 +1,47 @@
-// The scan that a call makes of the table, slot by slot.
-ghost use Rattle.std.specs.Prelude.{◌≡◌, ◌<◌, true};
-ghost use Rattle.protocol.specs.Table.{slot_count, holds_peer, pends_from};
-ghost use Rattle.table.specs.Scan.{first_place, count_if, scan_with, empty_scan, index_in_table, slot_found};
+// What the calls look for in the table: all of it in one scan, the connection of a name, and how many slots are pending.
+ghost use Rattle.std.specs.Prelude.{◌≡◌, true};
+ghost use Rattle.std.specs.List.{position};
+ghost use Rattle.protocol.specs.Table.{holds_peer, pends_from, pending_at, pending_from, scan_of};
+ghost use Rattle.table.specs.Scan.{first_place, count_if, found, scan_with, slot_found, stored};
 
 use crate::slot::{free_slot, is_live, is_pending};
 use endpoint::address::{same_block, same_name};
-use protocol::slots::{SLOTS, Scan, Slot};
-use std::num::wrapping_add_u32;
+use protocol::slots::{SLOTS, Slot};
+
+// What one scan finds: the peer's place, the lowest free place, and how many slots are pending.
+#[derive(Clone, Copy, Drop)]
+pub struct Scan {
+    pub place: Option<usize>,
+    pub free: Option<usize>,
+    pub pending: u32,
+}
 
 // Whether the slot holds a connection of this name at the time. The name comes first: in a search for it most slots' statuses need not be read.
-pub fn holds_peer(time: u64, b: [u8; 16], port: u16, s: Slot) -> bool
+#[tactic(auto, unfolding(protocol::specs::Table::holds_peer))]
+fn holds_peer(time: u64, b: [u8; 16], port: u16, s: Slot) -> bool
     ensures { result ≡ holds_peer time b port s }
 {
-    let a = s.addr;
-    if !same_name(s.port, port, a, b) {
-        return false;
-    }
-    let status = s.status;
-    is_live(time, status)
+    same_name(s.port, port, s.addr, b) && is_live(time, s.status)
 }
 
 // Whether the slot counts in the share of the address with this block. The status comes first: an address is compared, whole, only where it is pending.
-pub fn pends_from(time: u64, b: [u8; 16], s: Slot) -> bool
+#[tactic(auto, unfolding(protocol::specs::Table::pends_from))]
+fn pends_from(time: u64, b: [u8; 16], s: Slot) -> bool
     ensures { result ≡ pends_from time b s }
 {
-    let status = s.status;
-    if !is_pending(time, status) {
-        return false;
-    }
-    let a = s.addr;
-    same_block(a, b)
-}
-
-// One more if the test passed here. (A table of 64 never comes near the end of a `u32`.)
-pub fn count_if(n: u32, here: bool) -> u32
-    ensures { result ≡ count_if n here }
-{
-    if here { wrapping_add_u32(n, 1) } else { n }
+    is_pending(time, s.status) && same_block(s.addr, b)
 }
 
 // What is known where a slot is free.
 fn with_free(scan: Scan, i: usize) -> Scan
     ensures { result ≡ record { place = scan.place; free = first_place scan.free i true; pending = scan.pending } }
 {
-    if scan.free < SLOTS {
+    if scan.free.is_some() {
         return scan;
     }
     Scan {
-        place: scan.place,
-        free: i,
-        pending: scan.pending,
+        free: Some(i),
+        ..scan
     }
 }
 
@@ -57,68 +49,96 @@ fn with_free(scan: Scan, i: usize) -> Scan
 fn with_place(scan: Scan, i: usize) -> Scan
     ensures { result ≡ record { place = first_place scan.place i true; free = scan.free; pending = scan.pending } }
 {
-    if scan.place < SLOTS {
+    if scan.place.is_some() {
         return scan;
     }
     Scan {
-        place: i,
-        free: scan.free,
-        pending: scan.pending,
+        place: Some(i),
+        ..scan
     }
 }
 
-// One more pending, if this slot is.
+// One more pending, if this slot is. (A table of 64 never comes near the end of a `u32`.)
 fn with_pending(scan: Scan, here: bool) -> Scan
     ensures { result ≡ record { place = scan.place; free = scan.free; pending = count_if scan.pending here } }
 {
     if here {
         return Scan {
-            place: scan.place,
-            free: scan.free,
-            pending: wrapping_add_u32(scan.pending, 1),
+            pending: scan.pending.wrapping_add(1),
+            ..scan
         };
     }
     scan
 }
 
 // The scan goes on by one slot: its status, then its port, then its address. Each answer has a return of its own, and what did not change is handed
-// on whole: so a slot takes about twelve instructions. The loop stands in the call.
-pub fn scan_slot(scan: Scan, i: usize, time: u64, b: [u8; 16], port: u16, s: Slot) -> Scan
+// on whole: so a slot takes about twelve instructions.
+fn scan_slot(scan: Scan, i: usize, time: u64, b: [u8; 16], port: u16, s: Slot) -> Scan
     ensures { result ≡ scan_with scan i time b port s }
 {
-    let status = s.status;
-    if !is_live(time, status) {
+    if !is_live(time, s.status) {
         return with_free(scan, i);
     }
-    let counted = with_pending(scan, is_pending(time, status));
-    let a = s.addr;
-    if same_name(s.port, port, a, b) {
+    let counted = with_pending(scan, is_pending(time, s.status));
+    if same_name(s.port, port, s.addr, b) {
         return with_place(counted, i);
     }
     counted
 }
 
-// What is known before the first slot.
-pub fn empty_scan() -> Scan
-    ensures { result ≡ empty_scan }
+// Scans the table for the peer with this block and port.
+pub fn scan_table(slots: &[Slot; SLOTS], time: u64, b: [u8; 16], port: u16) -> Scan
+    ensures { result ≡ found (scan_of time b port slots.now) }
 {
-    Scan {
-        place: SLOTS,
-        free: SLOTS,
+    let mut scan = Scan {
+        place: None,
+        free: None,
         pending: 0,
+    };
+    for (i, s) in slots.iter().enumerate() {
+        scan = scan_slot(scan, i, time, b, port, *s);
+    }
+    scan
+}
+
+// The place of the peer with this block and port.
+pub fn find_peer(slots: &[Slot; SLOTS], time: u64, b: [u8; 16], port: u16) -> Option<usize>
+    ensures { result ≡ position (holds_peer time b port) slots.now }
+{
+    slots.iter().position(|s| holds_peer(time, b, port, *s))
+}
+
+// The slot at a place that was found; where there is none, the free slot.
+pub fn slot_at(slots: &[Slot; SLOTS], place: Option<usize>) -> Slot
+    ensures { result ≡ slot_found slots.now place }
+{
+    match place {
+        Some(i) if i < SLOTS => slots[i],
+        _ => free_slot(),
     }
 }
 
-// A place that can be read: this one, or place 0 where it is past the table.
-pub fn index_in_table(i: usize) -> usize
-    ensures { (result ≡ index_in_table i) × (result < slot_count) }
+// Stores a slot at a place that was found; where there is none, nothing changes.
+pub fn store(slots: &mut [Slot; SLOTS], place: Option<usize>, s: Slot)
+    ensures { slots.new ≡ stored slots.old place s }
 {
-    if i < SLOTS { i } else { 0 }
+    if let Some(i) = place
+        && i < SLOTS
+    {
+        slots[i] = s;
+    }
 }
 
-// The peer's slot, read at its place; where there is none, the free slot.
-pub fn slot_found(i: usize, s: Slot) -> Slot
-    ensures { result ≡ slot_found i s }
+// How many slots are pending.
+pub fn count_pending(slots: &[Slot; SLOTS], time: u64) -> u32
+    ensures { result ≡ pending_at time slots.now }
 {
-    if i < SLOTS { s } else { free_slot() }
+    slots.iter().filter(|s| is_pending(time, s.status)).count() as u32
+}
+
+// How many slots of one address, by its block, are pending.
+pub fn count_pending_from(slots: &[Slot; SLOTS], time: u64, b: [u8; 16]) -> u32
+    ensures { result ≡ pending_from time b slots.now }
+{
+    slots.iter().filter(|s| pends_from(time, b, **s)).count() as u32
 }

@@ -9,10 +9,8 @@ pub fn is_live(time: u64, s: Status) -> bool
 {
     match s {
         Status::Free => false,
-        Status::SynReceived => true,
-        Status::SynReceivedEarly(_) => true,
+        Status::SynReceived | Status::SynReceivedEarly(_) | Status::Established => true,
         Status::ResetHeld(until) => time < until,
-        Status::Established => true,
     }
 }
 
@@ -20,48 +18,28 @@ pub fn is_pending(time: u64, s: Status) -> bool
     ensures { result ≡ is_pending time s }
 {
     match s {
-        Status::Free => false,
-        Status::SynReceived => false,
+        Status::Free | Status::SynReceived | Status::Established => false,
         Status::SynReceivedEarly(_) => true,
         Status::ResetHeld(end) => time < end,
-        Status::Established => false,
     }
 }
 
 pub fn is_waiting(s: Status) -> bool
     ensures { result ≡ is_waiting s }
 {
-    match s {
-        Status::Free => false,
-        Status::SynReceived => true,
-        Status::SynReceivedEarly(_) => true,
-        Status::ResetHeld(_) => false,
-        Status::Established => false,
-    }
+    matches!(s, Status::SynReceived | Status::SynReceivedEarly(_))
 }
 
 pub fn is_established(s: Status) -> bool
     ensures { result ≡ is_established s }
 {
-    match s {
-        Status::Free => false,
-        Status::SynReceived => false,
-        Status::SynReceivedEarly(_) => false,
-        Status::ResetHeld(_) => false,
-        Status::Established => true,
-    }
+    matches!(s, Status::Established)
 }
 
 pub fn is_free(s: Status) -> bool
     ensures { result ≡ is_free s }
 {
-    match s {
-        Status::Free => true,
-        Status::SynReceived => false,
-        Status::SynReceivedEarly(_) => false,
-        Status::ResetHeld(_) => false,
-        Status::Established => false,
-    }
+    matches!(s, Status::Free)
 }
 
 // How many bytes of early data were accepted.
@@ -69,11 +47,8 @@ pub fn accepted_with(s: Status) -> u32
     ensures { result ≡ accepted_with s }
 {
     match s {
-        Status::Free => 0,
-        Status::SynReceived => 0,
         Status::SynReceivedEarly(n) => n,
-        Status::ResetHeld(_) => 0,
-        Status::Established => 0,
+        _ => 0,
     }
 }
 
@@ -82,11 +57,9 @@ pub fn after_reset(end: u64, s: Status) -> Status
     ensures { result ≡ after_reset end s }
 {
     match s {
-        Status::Free => Status::Free,
         Status::SynReceived => Status::Free,
         Status::SynReceivedEarly(_) => Status::ResetHeld(end),
-        Status::ResetHeld(e) => Status::ResetHeld(e),
-        Status::Established => Status::Established,
+        Status::Free | Status::ResetHeld(_) | Status::Established => s,
     }
 }
 
@@ -119,12 +92,5 @@ pub fn new_slot(addr: [u8; 16], port: u16, irs: u32, iss: u32, status: Status) -
 pub fn with_status(s: Slot, status: Status) -> Slot
     ensures { result ≡ with_status s status }
 {
-    let addr = s.addr;
-    Slot {
-        addr,
-        port: s.port,
-        irs: s.irs,
-        iss: s.iss,
-        status,
-    }
+    Slot { status, ..s }
 }

@@ -6,37 +6,33 @@ use mathlib.Core.List.{List, [], ◌∷◌, ◌++◌, append-nil}
 use native.Mathlib.Nat.{not-suc-le-zero}
 use native.Mathlib.Omega.{arith}
 use lib.Dec.{eqb, ltb}
-use lib.ListN.{length, take, drop, length-drop}
+use lib.ListN.{length, take, drop}
 use lib.Seq.{take_all, drop-length, drop-drop}
 use borrow.Author.Tests.{eqb-true, le-ltb, lt-ltb, ltb-true, ltb-false}
+use Rattle.std.specs.Prelude.{Option, Some, None, unwrap_or}
 use Rattle.text.specs.Line.{feed_at, before_feed, feed_of, length_with, gathered}
 
--- ---- what the code finds: the input from the place on, and the place of its line feed
+-- ---- what the code finds: the input from the place on, and the place of its line feed, or else how long it is
 
-module _ (n from : ℕ) (input left : List ℕ) (size all : ℕ) (l : left ≡ drop from input) (f : size ≡ feed_at left) (e : all ≡ length_with n size) where
-  feed : size ≡ feed_at (drop from input)
-  feed = rw l at f
+module _ (n from : ℕ) (input left : List ℕ) (size all : ℕ) (feed : Option ℕ) (l : left ≡ drop from input) (u : size ≡ unwrap_or feed (length left)) (f : unwrap_or feed (length left) ≡ feed_at left) (e : all ≡ length_with n size) where
+  feed_is : size ≡ feed_at (drop from input)
+  feed_is = rw l at (u ∙ f)
 
-  pub part_is : take size left ≡ before_feed (drop from input)
-  part_is = cc feed
-
-  pub cut_off : length left ≤ size → record { next = length input; len = all; complete = false } ≡ gathered n from input
+  pub cut_off : feed ≡ None → record { next = length input; len = all; complete = false } ≡ gathered n from input
   unfolding gathered
   cut_off h =
-      let q : length (drop from input) ≤ feed_at (drop from input) = omega (arith, feed, rw l at h) in
+      let k : size ≡ length left = u ∙ ap (λ (o : Option ℕ). unwrap_or o (length left)) h in
+      let q : length (drop from input) ≤ feed_at (drop from input) = omega (arith, feed_is, rw l at k) in
       let t : ltb (feed_at (drop from input)) (length (drop from input)) ≡ false = le-ltb _ _ q in
-      rw t (cc feed)
+      rw t (cc feed_is)
 
-  pub ended : size < length left → record { next = from + size + 1; len = all; complete = true } ≡ gathered n from input
+  pub ended : (i : ℕ) → feed ≡ Some i → i < length left → record { next = from + size + 1; len = all; complete = true } ≡ gathered n from input
   unfolding gathered
-  ended h =
-      let q : feed_at (drop from input) < length (drop from input) = omega (arith, feed, rw l at h) in
+  ended i h k =
+      let j : size ≡ i = u ∙ ap (λ (o : Option ℕ). unwrap_or o (length left)) h in
+      let q : feed_at (drop from input) < length (drop from input) = omega (arith, feed_is, rw l at k) in
       let t : ltb (feed_at (drop from input)) (length (drop from input)) ≡ true = lt-ltb _ _ q in
-      rw t (cc feed)
-
-  -- the place after the line feed lies in the input
-  pub in_input : size < length left → from + size + 1 ≤ length input
-  in_input h = omega (arith, length-drop from input, rw l at h)
+      rw t (cc feed_is)
 
 -- ---- a step loses no byte and takes none twice: what was offered is what the line got, its line feed, and what is left
 

@@ -1,17 +1,18 @@
 -- Puts that follow one another are one put, and what one put leaves. Assumes nothing.
 use Prim.Native.Nat.{ℕ, ◌+◌, ◌-◌, ◌≤◌, ◌<◌, min}
-use mathlib.Core.Path.{◌≡◌, refl, ap, sym, ◌∙◌, subst}
+use mathlib.Core.Path.{◌≡◌, refl, ap, sym, ◌∙◌}
 use mathlib.Core.Bool.{Bool, true, false}
 use mathlib.Core.List.{List, [], ◌++◌, append-nil, append_assoc}
 use native.Mathlib.Omega.{arith}
 use lib.Dec.{leb}
-use lib.ListN.{length, take, drop, length-append}
+use lib.ListN.{length, take, drop, length-append, length-drop}
 use lib.Seq.{take_all, take-append-le, take-append-add, drop-drop, length-take-le, length-paste, take-paste, drop-paste, paste, paste-zero}
 use borrow.Author.Tests.{leb-true, leb-false}
 use borrow.Rule.Slice.PartMut.{put_mid}
 use Rattle.lists.specs.Bytes.{overwrite}
 use Rattle.lists.proofs.Lent.{copied}
-use Rattle.text.specs.Put.{fitting, place_after, laid}
+use Rattle.text.specs.Put.{fitting, place_after, laid, put_after}
+use Rattle.text.specs.declared.put.Text.{Text}
 
 -- ---- what a put leaves, by how many bytes fit; a put past the end changes nothing
 
@@ -89,51 +90,73 @@ laid_laid_by at s w out false e =
 pub laid-laid : (at : ℕ) (s w out : List ℕ) → laid (place_after at (length s) (length out)) w (laid at s out) ≡ laid at (s ++ w) out
 laid-laid at s w out = laid_laid_by at s w out _ refl
 
--- the same of a place and a buffer that a put left: `s` was put into `o` at a place, which left the place n and the buffer out
-abbrev pub Put : List ℕ → ℕ → List ℕ → ℕ → List ℕ → Type 0
+-- the same of a text; and what a put leaves of each of its parts
+module _ (s : List ℕ) (t : Text) where
+  pub at_after : (put_after s t).at ≡ place_after t.at (length s) (length t.out.now)
+  unfolding put_after
+  at_after = refl
+
+  pub out_after : (put_after s t).out.now ≡ laid t.at s t.out.now
+  unfolding put_after
+  out_after = refl
+
+  pub same_reference : (put_after s t).out.ghost_name ≡ t.out.ghost_name
+  unfolding put_after
+  same_reference = refl
+
+  pub put_put : (w : List ℕ) → put_after w (put_after s t) ≡ put_after (s ++ w) t
+  unfolding put_after
+  put_put w = rw (length-laid t.at s t.out.now, place-place, laid-laid, length-append s w) refl
+
+-- ---- a put of nothing; and what the check tries where puts follow one another
+
+pub place_none : (at n : ℕ) → place_after at 0 n ≡ at
+unfolding place_after
+place_none at n = omega arith
+
+pub laid_none : (at : ℕ) (out : List ℕ) → laid at [] out ≡ out
+laid_none at out = laid_as at [] out 0 (omega arith) ∙ sym (paste-zero out at [])
+
+pub put_nothing : (t : Text) → put_after [] t ≡ t
+unfolding put_after
+put_nothing t = rw (place_none, laid_none) refl
+
+pub ruleset puts = (put_put, at_after, out_after, same_reference, put_nothing, place_none, laid_none)
+
+-- ---- one put: past the end; of as much as there is room for, where the room is lent and comes back as `last`
+
+-- what one put comes to: the place n and the buffer now, from a place and a buffer before
+abbrev Put : List ℕ → ℕ → List ℕ → ℕ → List ℕ → Type 0
 Put o at s n out = (n ≡ place_after at (length s) (length o)) × (out ≡ laid at s o)
 
-pub more : (o : List ℕ) (at : ℕ) (s w : List ℕ) (n n' : ℕ) (out out' : List ℕ) → Put o at s n out → Put out n w n' out' → Put o at (s ++ w) n' out'
-more o at s w n n' out out' p q =
-    let l : length out ≡ length o = ap length p.1 ∙ length-laid at s o in (
-      q.0 ∙ rw (l, p.0, place-place, length-append s w),
-      q.1 ∙ rw (p.0, p.1) (laid-laid at s w o),
-    )
-
--- the same with each place and buffer by itself
-pub put_then : (o : List ℕ) (at : ℕ) (s w : List ℕ) {n n' : ℕ} {out out' : List ℕ} → n ≡ place_after at (length s) (length o) → out ≡ laid at s o
-    → n' ≡ place_after n (length w) (length out) → out' ≡ laid n w out → Put o at (s ++ w) n' out'
-put_then o at s w p q r t = more o at s w _ _ _ _ (p, q) (r, t)
-
-pub same-put : (o : List ℕ) (at : ℕ) (s w : List ℕ) (n : ℕ) (out : List ℕ) → s ≡ w → Put o at s n out → Put o at w n out
-same-put o at s w n out e p = subst (λ (x : List ℕ). Put o at x n out) e p
-
--- ---- one put: of nothing; past the end; of a text longer than what is left, which is lent, and whose front is copied; of a text that fits
-
-pub put-none : (out : List ℕ) (at : ℕ) → Put out at [] at out
-unfolding place_after
-put-none out at = (omega arith, sym (laid_as at [] out 0 (omega arith) ∙ sym (paste-zero out at [])))
+-- as a text
+pub as_text : (s : List ℕ) (t : Text) (n : ℕ) (out : List ℕ) → Put t.out.now t.at s n out → record t { out = record t.out { now = out }; at = n } ≡ put_after s t
+unfolding put_after
+as_text s t n out p = rw (p.0, p.1) refl
 
 module _ (out src : List ℕ) (at : ℕ) where
   pub put_past : length out < at → Put out at src at out
   put_past h = (sym (place_past at src out (omega arith)), sym (laid_past at src out (omega arith)))
 
-  pub put_front : (last : List ℕ) → at ≤ length out → length out - at < length src
-      → last ≡ overwrite (take (length out - at) src) (take (length out - at) (drop at out))
-      → Put out at src (length (put_mid at (length out - at) out last)) (put_mid at (length out - at) out last)
-  unfolding place_after
-  put_front last h k e =
-      let m = length out - at in
-      let l : length (take m src) ≡ m = length-take-le m src (omega arith) in
-      let x : put_mid at m out last ≡ laid at src out =
-      copied out (take m src) last at h (rw (take_all (length (take m src)) (take m src) (omega arith)) e) ∙ rw (l, ← append_assoc) (sym (laid_as at src out m (omega arith))) in
-      (ap length x ∙ length-laid at src out ∙ omega arith, x)
+  -- as much as fits
+  fits : (m : ℕ) (t : Bool) → leb (length src) m ≡ t → (take m src ≡ take (min (length src) m) src) × (length (take m src) ≡ min (length src) m)
+  fits m true e =
+      let h : length src ≤ m = leb-true (length src) m e in
+      let k : min (length src) m ≡ length src = omega arith in
+      rw (k, take_all m src h, take_all (length src) src (omega arith)) (refl, refl)
+  fits m false e =
+      let h : m < length src = leb-false (length src) m e in
+      let k : min (length src) m ≡ m = omega arith in
+      (rw k, length-take-le m src (omega arith) ∙ sym k)
 
-  pub put_whole : (last : List ℕ) → at ≤ length out → length src ≤ length out - at
-      → last ≡ overwrite src (take (length out - at) (drop at out))
-      → Put out at src (at + length src) (put_mid at (length out - at) out last)
+  pub put_room : (last room : List ℕ) (n : ℕ) → at ≤ length out → room ≡ take (length out - at) (drop at out)
+      → n ≡ min (length src) (length room) → last ≡ overwrite (take (length room) src) room → Put out at src (at + n) (put_mid at (length out - at) out last)
   unfolding place_after
-  put_whole last h k e =
-      let a : laid at src out ≡ take at out ++ (src ++ drop (at + length src) out) =
-      laid_as at src out (length src) (omega arith) ∙ rw (take_all (length src) src (omega arith), append_assoc) in
-      (omega arith, copied out src last at h (rw (take_all (length src) src (omega arith)) e) ∙ sym a)
+  put_room last room n h r c e =
+      let m = length out - at in
+      let l : length room ≡ m = ap length r ∙ length-take-le m (drop at out) (omega (arith, length-drop at out)) in
+      let f = fits m _ refl in
+      let s = take m src in
+      let x : put_mid at m out last ≡ take at out ++ (s ++ drop (at + length s) out) =
+      copied out s last at h (rw (take_all (length s) s (omega arith)) (rw (l, r) at e)) in
+      (omega arith, x ∙ rw (f.1, f.0, ← append_assoc) (sym (laid_as at src out (min (length src) m) refl)))

@@ -1,6 +1,6 @@
 -- A part of the input taken: from what is left, from a read, or none at the input's end; no byte is lost and none is taken twice. Assumes nothing.
 use Prim.Native.Nat.{ℕ, ◌-◌, ◌≤◌}
-use mathlib.Core.Path.{◌≡◌, ◌∙◌}
+use mathlib.Core.Path.{◌≡◌, sym, ◌∙◌}
 use mathlib.Core.Bool.{true, false}
 use mathlib.Core.List.{List, ◌++◌}
 use native.Mathlib.Omega.{arith}
@@ -13,7 +13,7 @@ use Rattle.text.specs.Line.{before_feed, feed_of}
 use Rattle.text.specs.Reader.{length_before, part_taken, ended, is_used_up, offered, next_taken}
 use Rattle.text.specs.Put.{laid}
 use Rattle.text.proofs.Lines.{parted}
-use Rattle.text.proofs.Puts.{put-none}
+use Rattle.text.proofs.Puts.{laid_none}
 
 module _ (r : Reader) (n : ℕ) (input line line' : List ℕ) where
   -- what is due of the reader, and of the line
@@ -27,7 +27,7 @@ module _ (r : Reader) (n : ℕ) (input line line' : List ℕ) where
 
   pub at-end : (q : Reader) → is_used_up r ≡ true → n ≡ 0 → q ≡ ended r → line' ≡ line → Due q
   unfolding next_taken offered
-  at-end q t z e l = ((rw (t, z) e, rw e (omega arith)), rw (t, z, take-nil) (l ∙ (put-none line _).1))
+  at-end q t z e l = ((rw (t, z) e, rw e (omega arith)), rw (t, z, take-nil) (l ∙ sym (laid_none _ line)))
 
   pub from_read : (q : Reader) → is_used_up r ≡ true → (n ≡ 0 → ⊥) → q ≡ part_taken r 0 (take n input)
       → line' ≡ laid (length_before r) (before_feed (take n input)) line → Due q

@@ -12,8 +12,7 @@ use Rattle.lists.specs.Bytes.{Bytes}
 use Rattle.lists.proofs.Bools.{and_true}
 use Rattle.lists.specs.Bytes.{same_bytes}
 use Rattle.lists.specs.Lists.{every}
-use Rattle.text.specs.declared.number.Number.TheVariants.{Value}
-use Rattle.text.specs.declared.bytestring.ByteString.TheVariants.{Count}
+use Rattle.std.specs.Prelude.{Some}
 use Rattle.text.specs.Word.{is_space, spaces, first_word, after_word, word_at}
 use Rattle.text.specs.Number.{is_digit, value_from, number_in, digits_of, decimal}
 use Rattle.text.specs.ByteString.{is_dash, nibble, is_hex_digit, pair_bytes, hex_digit, hex_of, hex_word}
@@ -59,11 +58,11 @@ digits_only (suc k) n = go (ltb n 10) refl (digits_only k (n / 10))
     go true t e = is_digit_of n (ltb-true n 10 t)
     go false t e = every_append is_digit (digits_of k (n / 10)) _ e (is_digit_of (n % 10) (omega arith))
 
-pub number_again : (n most : ℕ) → n ≤ most → n < 18446744073709551616 → number_in (decimal n) most ≡ Value n
+pub number_again : (n most : ℕ) → n ≤ most → n < 18446744073709551616 → number_in (decimal n) most ≡ Some n
 unfolding decimal
 number_again n most h k =
     let v : value_from 0 (digits_of 20 n) ≡ n = digits_value 20 n (omega arith) in
-    sym (number_read (digits_of 20 n) most (digits_some 19 n) (sym (digits_only 20 n)) (omega arith)) ∙ ap Value v
+    sym (number_read (digits_of 20 n) most (digits_some 19 n) (sym (digits_only 20 n)) (omega arith)) ∙ ap Some v
 
 -- Bytes
 
@@ -105,7 +104,7 @@ no_dash : (b : ℕ) (s : List ℕ) → is_dash (hex_of (b ∷ s)) ≡ false
 unfolding hex_of same_bytes
 no_dash b s = and_not (eqb (hex_digit (b / 16)) 45)
 
-pub bytes_again : (s : List ℕ) (out_len : ℕ) → Bytes s → length s ≤ out_len → ReadAs (hex_word s) out_len (Count (length s)) s
+pub bytes_again : (s : List ℕ) (out_len : ℕ) → Bytes s → length s ≤ out_len → ReadAs (hex_word s) out_len (Some (length s)) s
 unfolding hex_word same_bytes
 bytes_again [] out_len h k = read_dash (45 ∷ []) out_len refl
 bytes_again (b ∷ s) out_len h k =
@@ -114,7 +113,7 @@ bytes_again (b ∷ s) out_len h k =
     let t = twice (b ∷ s) in
     let n : length (pair_bytes w) ≡ length (b ∷ s) = ap length e in
     let o = read_pairs w out_len (no_dash b s) (hex_all w (λ z. omega arith) (omega arith) (hex_only (b ∷ s) h)) (omega arith) in
-    (sym (ap (λ (t : List ℕ). Count (length t)) e) ∙ o.0, sym e ∙ o.1)
+    (sym (ap (λ (t : List ℕ). Some (length t)) e) ∙ o.0, sym e ∙ o.1)
 
 -- Words
 

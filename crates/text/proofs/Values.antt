@@ -8,25 +8,42 @@ use lib.Dec.{leb}
 use lib.ListN.{length}
 use borrow.Author.Tests.{leb-true}
 use Rattle.lists.proofs.Bools.{and_true}
-use Rattle.text.specs.declared.number.Number.TheVariants.{Value, Bad}
-use Rattle.text.specs.declared.bytestring.ByteString.TheVariants.{Count, Bad as BytesBad}
-use Rattle.text.specs.Number.{is_number, value_from, number_in}
+use Rattle.std.specs.Prelude.{Some, None}
+use Rattle.text.specs.Number.{is_number, value_from, number_as, number_in}
 use Rattle.text.specs.ByteString.{bytes_of, is_readable, bytes_in, bytes_read}
 
-pub value_most : (s : List ℕ) (most v : ℕ) → number_in s most ≡ Value v → v ≤ most
-unfolding number_in
+-- what is made of a number that was read, or of none
+module _ {A : Type 0} (make : ℕ → A) (s : List ℕ) (most : ℕ) where
+  pub number_made : (n : ℕ) → Some n ≡ number_in s most → Some (make n) ≡ number_as make s most
+  unfolding number_as
+  number_made n e = go (is_number s && leb (value_from 0 s) most) e
+    where
+      go : (t : Bool) → Some n ≡ cond t (Some (value_from 0 s)) None → Some (make n) ≡ cond t (Some (make (value_from 0 s))) None
+      go true e = cc
+      go false e = cc
+
+  pub none_made : None ≡ number_in s most → None ≡ number_as make s most
+  unfolding number_as
+  none_made e = go (is_number s && leb (value_from 0 s) most) e
+    where
+      go : (t : Bool) → None ≡ cond t (Some (value_from 0 s)) None → None ≡ cond t (Some (make (value_from 0 s))) None
+      go true e = cc
+      go false e = refl
+
+pub value_most : (s : List ℕ) (most v : ℕ) → number_in s most ≡ Some v → v ≤ most
+unfolding number_as
 value_most s most v e = go (is_number s && leb (value_from 0 s) most) refl e
   where
-    go : (t : Bool) → is_number s && leb (value_from 0 s) most ≡ t → cond t (Value (value_from 0 s)) Bad ≡ Value v → v ≤ most
+    go : (t : Bool) → is_number s && leb (value_from 0 s) most ≡ t → cond t (Some (value_from 0 s)) None ≡ Some v → v ≤ most
     go true h e =
         let k : value_from 0 s ≡ v = cc in
         omega (arith, leb-true (value_from 0 s) most (and_true (is_number s) _ h).1)
-    go false h e = let z : ◌≡◌ {A = ℕ} 0 1 = cc in absurd (omega arith)
+    go false h e = cc
 
-pub bytes_counted : (s : List ℕ) (out_len n : ℕ) → bytes_read s out_len ≡ Count n → length (bytes_in s out_len) ≡ n
+pub bytes_counted : (s : List ℕ) (out_len n : ℕ) → bytes_read s out_len ≡ Some n → length (bytes_in s out_len) ≡ n
 unfolding bytes_in bytes_read
 bytes_counted s out_len n e = go (is_readable s out_len) e
   where
-    go : (t : Bool) → cond t (Count (length (bytes_of s))) BytesBad ≡ Count n → length (cond t (bytes_of s) []) ≡ n
+    go : (t : Bool) → cond t (Some (length (bytes_of s))) None ≡ Some n → length (cond t (bytes_of s) []) ≡ n
     go true e = cc
-    go false e = let z : ◌≡◌ {A = ℕ} 0 1 = cc in absurd (omega arith)
+    go false e = cc

@@ -1,32 +1,14 @@
--- The words of a line: the next space, found by its index, ends the first word of what is left. Assumes nothing.
-use Prim.Native.Nat.{ℕ, zero, suc, ◌+◌, ◌-◌, ◌≤◌}
-use mathlib.Core.Path.{◌≡◌, refl, ap, ◌∙◌}
+-- The words of a line are the parts between its spaces. Assumes nothing.
+use Prim.Native.Nat.{ℕ, zero, suc}
+use mathlib.Core.Path.{◌≡◌, refl, sym, ap, ◌∙◌}
 use mathlib.Core.Bool.{Bool, true, false, cond}
 use mathlib.Core.List.{List, [], ◌∷◌}
-use native.Mathlib.Omega.{arith}
+use lib.ListN.{get_or}
 use lib.Dec.{eqb}
-use lib.ListN.{length, take, drop, drop_of_length-le}
-use lib.Seq.{drop-drop}
-use Rattle.lists.specs.Lists.{first_index}
+use denote.Ref.{Bor}
+use Rattle.std.specs.Prelude.{Option, Some, None, unwrap_or, option_map}
+use Rattle.std.specs.List.{slice_split, slice_get, onto_first}
 use Rattle.text.specs.Word.{is_space, first_word, after_word, word_at}
-
-first-word : (s : List ℕ) → first_word s ≡ take (first_index is_space s) s
-unfolding first_word
-first-word [] = refl
-first-word (b ∷ s) = go (eqb b 32) (first-word s)
-  where
-    go : (t : Bool) → first_word s ≡ take (first_index is_space s) s → cond t [] (b ∷ first_word s) ≡ take (cond t 0 (suc (first_index is_space s))) (b ∷ s)
-    go true e = refl
-    go false e = ap (λ (r : List ℕ). b ∷ r) e
-
-after-word : (s : List ℕ) → after_word s ≡ drop (suc (first_index is_space s)) s
-unfolding after_word
-after-word [] = refl
-after-word (b ∷ s) = go (eqb b 32) (after-word s)
-  where
-    go : (t : Bool) → after_word s ≡ drop (suc (first_index is_space s)) s → cond t s (after_word s) ≡ drop (cond t 0 (suc (first_index is_space s))) s
-    go true e = refl
-    go false e = e
 
 -- no words
 pub no_word : (i : ℕ) → word_at i [] ≡ []
@@ -34,21 +16,34 @@ unfolding word_at first_word after_word
 no_word zero = refl
 no_word (suc i) = no_word i
 
--- a space is found from a place on, or the line's end
-module _ (line : List ℕ) (from end : ℕ) (place : end ≡ from + first_index is_space (drop from line)) where
-  pub word-here : word_at 0 (drop from line) ≡ take (end - from) (drop from line)
-  unfolding word_at
-  word-here =
-      let k : first_index is_space (drop from line) ≡ end - from = omega (arith, place) in
-      first-word (drop from line) ∙ ap (λ (j : ℕ). take j (drop from line)) k
+pub word_part : (s : List ℕ) (i : ℕ) → get_or (slice_split is_space s) i [] ≡ word_at i s
+unfolding word_at first_word after_word
+word_part [] zero = refl
+word_part [] (suc i) = sym (no_word i)
+word_part (b ∷ s) zero = go (eqb b 32) (slice_split is_space s) (word_part s zero)
+  where
+    go : (t : Bool) (ps : List (List ℕ)) → get_or ps 0 [] ≡ first_word s → get_or (cond t ([] ∷ ps) (onto_first b ps)) 0 [] ≡ cond t [] (b ∷ first_word s)
+    go true ps e = refl
+    go false [] e = ap (λ (w : List ℕ). b ∷ w) e
+    go false (p ∷ ps) e = ap (λ (w : List ℕ). b ∷ w) e
+word_part (b ∷ s) (suc i) = go (eqb b 32) (slice_split is_space s) (word_part s i) (word_part s (suc i))
+  where
+    go : (t : Bool) (ps : List (List ℕ)) → get_or ps i [] ≡ word_at i s → get_or ps (suc i) [] ≡ word_at i (after_word s)
+        → get_or (cond t ([] ∷ ps) (onto_first b ps)) (suc i) [] ≡ word_at i (cond t s (after_word s))
+    go true ps e f = e
+    go false [] e f = f
+    go false (p ∷ ps) e f = f
 
-  pub word-later : (i : ℕ) → word_at (suc i) (drop from line) ≡ word_at i (drop (end + 1) line)
-  unfolding word_at
-  word-later i =
-      let k : from + suc (first_index is_space (drop from line)) ≡ end + 1 = omega (arith, place) in
-      ap (word_at i) (after-word (drop from line) ∙ drop-drop (suc (first_index is_space (drop from line))) from line ∙ ap (λ (j : ℕ). drop j line) k)
+-- the part at a place as it is lent, or else an empty one
+pub part_or_none : (s : List ℕ) (i : ℕ) (r : Option (Bor (List ℕ))) (d w : Bor (List ℕ)) → option_map (λ x. x.now) r ≡ slice_get (slice_split is_space s) i
+    → w ≡ unwrap_or r d → d.now ≡ [] → w.now ≡ word_at i s
+part_or_none s i r d w e u z = ap (λ (x : Bor (List ℕ)). x.now) u ∙ go r z ∙ ap (λ (o : Option (List ℕ)). unwrap_or o []) e ∙ get_part (slice_split is_space s) i ∙ word_part s i
+  where
+    go : (r : Option (Bor (List ℕ))) → d.now ≡ [] → (unwrap_or r d).now ≡ unwrap_or (option_map (λ x. x.now) r) []
+    go None z = z
+    go (Some x) z = refl
 
-  pub word_none : (i : ℕ) → length line ≤ end → word_at (suc i) (drop from line) ≡ []
-  word_none i h =
-      let k : length line ≤ end + 1 = omega arith in
-      word-later i ∙ ap (word_at i) (drop_of_length-le line k) ∙ no_word i
+    get_part : (ps : List (List ℕ)) (i : ℕ) → unwrap_or (slice_get ps i) [] ≡ get_or ps i []
+    get_part [] i = refl
+    get_part (p ∷ ps) zero = refl
+    get_part (p ∷ ps) (suc i) = get_part ps i

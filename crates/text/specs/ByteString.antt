@@ -1,10 +1,8 @@
 -- The replay format (docs/REPLAY.md): a byte string is pairs of hexadecimal digits, of either case, or `-` for no bytes.
 -- Assumes nothing.
-use Rattle.std.specs.Prelude.{ℕ, ◌+◌, ◌-◌, ◌*◌, ◌/◌, ◌%◌, List, [], ◌∷◌, Bool, cond, ◌&&◌, ◌||◌, length, leb, ltb, eqb}
+use Rattle.std.specs.Prelude.{ℕ, ◌+◌, ◌-◌, ◌*◌, ◌/◌, ◌%◌, List, [], ◌∷◌, Bool, cond, ◌&&◌, ◌||◌, Option, Some, None, length, leb, ltb, eqb}
 use Rattle.lists.specs.Bytes.{same_bytes}
 use Rattle.lists.specs.Lists.{every}
-use Rattle.text.specs.declared.bytestring.ByteString.{ByteString}
-use Rattle.text.specs.declared.bytestring.ByteString.TheVariants.{Count, Bad}
 
 -- `-`
 abbrev pub is_dash : List ℕ → Bool
@@ -42,8 +40,9 @@ is_readable s out_len = (is_dash s || is_hex s) && leb (length (bytes_of s)) out
 unfoldable pub bytes_in : List ℕ → ℕ → List ℕ
 bytes_in s out_len = cond (is_readable s out_len) (bytes_of s) []
 
-unfoldable pub bytes_read : List ℕ → ℕ → ByteString
-bytes_read s out_len = cond (is_readable s out_len) (Count (length (bytes_of s))) Bad
+-- how many they are, if the word is not bad
+unfoldable pub bytes_read : List ℕ → ℕ → Option ℕ
+bytes_read s out_len = cond (is_readable s out_len) (Some (length (bytes_of s))) None
 
 -- a digit below 16, in lower case
 abbrev pub hex_digit : ℕ → ℕ

@@ -3,6 +3,7 @@
 use Rattle.std.specs.Prelude.{ℕ, ◌+◌, ◌-◌, min, Bool, true, false, List, [], ◌∷◌, ◌++◌, length}
 use Rattle.std.proofs.Math.Seq.{paste}
 use Rattle.text.specs.Number.{decimal}
+use Rattle.text.specs.declared.put.Text.{Text}
 
 -- how many of n bytes fit from a place on, in a buffer of so many
 abbrev pub fitting : ℕ → ℕ → ℕ → ℕ
@@ -15,6 +16,10 @@ place_after at n out_len = at + fitting at n out_len
 -- a buffer with bytes put at a place, as many as fit; all others are as they were
 unfoldable pub laid : ℕ → List ℕ → List ℕ → List ℕ
 laid at s out = paste out at s (fitting at (length s) (length out))
+
+-- a text with more put: the buffer with bytes put at the place, and the place after them
+unfoldable pub put_after : List ℕ → Text → Text
+put_after s t = record t { out = record t.out { now = laid t.at s t.out.now }; at = place_after t.at (length s) (length t.out.now) }
 
 -- "Lines out": words with single spaces between them, and a line feed
 

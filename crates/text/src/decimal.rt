@@ -13,6 +13,7 @@ pub fn decimal(n: u64, digits: &mut [u8; MOST_DIGITS]) -> usize
     ensures digits_after { take result digits.new ≡ decimal n }
     ensures rest { drop result digits.new ≡ drop result digits.old }
 {
+    // The digits come from the last to the first, and the number says how many.
     let mut back = [0u8; MOST_DIGITS];
     let mut i = MOST_DIGITS;
     let mut left = n;

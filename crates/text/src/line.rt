@@ -4,7 +4,7 @@ ghost use Rattle.text.specs.Line.{is_silent, length_with, before_feed, gathered}
 ghost use Rattle.text.specs.Put.{laid};
 
 use crate::part::{first, rest};
-use crate::put::put;
+use crate::put::Text;
 use crate::scan::find;
 
 // The longest line that is read, its line feed not counted.
@@ -25,13 +25,7 @@ pub enum Reply {
 fn length_with(len: usize, more: usize) -> usize
     ensures { result ≡ length_with len more }
 {
-    if len > LONGEST {
-        return LONGEST + 1;
-    }
-    if more > LONGEST - len {
-        return LONGEST + 1;
-    }
-    len + more
+    len.saturating_add(more).min(LONGEST + 1)
 }
 
 // Whether a line prints nothing: it is empty or a comment.
@@ -39,10 +33,7 @@ fn length_with(len: usize, more: usize) -> usize
 pub fn is_silent(line: &[u8]) -> bool
     ensures { result ≡ is_silent line.now }
 {
-    if line.len() == 0 {
-        return true;
-    }
-    line[0] == b'#'
+    matches!(line, [] | [b'#', ..])
 }
 
 // What a step through the input comes to: where it goes on, how long the line is, and whether the line is complete.
@@ -54,25 +45,26 @@ pub struct Gathered {
 }
 
 // Adds what the input has, from a place on, to a line of `len` bytes: up to its line feed, or to the end of the input.
+#[tactic(auto, using(crate::proofs::Puts::puts))]
 pub fn gather(line: &mut [u8], len: usize, input: &[u8], from: usize) -> Gathered
     ensures value { result ≡ gathered len from input.now }
     ensures line_after { line.new ≡ laid len (before_feed (drop from input.now)) line.old }
 {
     let left = rest(input, from);
-    let n = left.len();
-    let size = find(left, b'\n');
-    put(line, len, first(left, size));
+    let feed = find(left, b'\n');
+    let size = feed.unwrap_or(left.len());
+    Text { out: line, at: len }.put(first(left, size));
     let all = length_with(len, size);
-    if n <= size {
-        return Gathered {
+    match feed {
+        Some(_) => Gathered {
+            next: from + size + 1,
+            len: all,
+            complete: true,
+        },
+        None => Gathered {
             next: input.len(),
             len: all,
             complete: false,
-        };
-    }
-    Gathered {
-        next: from + size + 1,
-        len: all,
-        complete: true,
+        },
     }
 }

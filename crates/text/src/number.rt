@@ -1,85 +1,89 @@
 // Decimal numbers.
-ghost use Rattle.std.specs.Prelude.{◌≡◌};
-ghost use Rattle.text.specs.Number.{digit, number_in, number16_in, number32_in};
+ghost use Rattle.std.specs.Prelude.{◌≡◌, ◌≤◌, ℕ};
+ghost use Rattle.text.specs.Number.{digit, number_as, number_in};
 
-// A number that was read, or that the word is none, or one too large.
-#[derive(Clone, Copy, Drop)]
-pub enum Number {
-    Value(u64),
-    Bad,
+// The types of numbers that a word can say.
+pub trait Unsigned: Sized {
+    ghost MOST: { ℕ };
+
+    ghost made: { ℕ → Self };
+
+    // The greatest.
+    const MOST: u64;
+
+    // A number as one of this type, which holds it up to the greatest.
+    fn made(n: u64) -> Self
+        ensures { n ≤ MOST → result ≡ made n };
 }
 
-// The same of numbers of 16 and of 32 bits.
-#[derive(Clone, Copy, Drop)]
-pub enum Number16 {
-    Value(u16),
-    Bad,
+impl Unsigned for u16 {
+    ghost MOST = { 65535 };
+
+    ghost made = { λ n. n };
+
+    const MOST: u64 = 0xffff;
+
+    fn made(n: u64) -> u16 {
+        (n & 0xffff) as u16
+    }
 }
 
-#[derive(Clone, Copy, Drop)]
-pub enum Number32 {
-    Value(u32),
-    Bad,
+impl Unsigned for u32 {
+    ghost MOST = { 4294967295 };
+
+    ghost made = { λ n. n };
+
+    const MOST: u64 = 0xffffffff;
+
+    fn made(n: u64) -> u32 {
+        (n & 0xffffffff) as u32
+    }
+}
+
+impl Unsigned for u64 {
+    ghost MOST = { 18446744073709551615 };
+
+    ghost made = { λ n. n };
+
+    const MOST: u64 = u64::MAX;
+
+    fn made(n: u64) -> u64 {
+        n
+    }
 }
 
 // The number that a word is, if it is at most `most`. Leading zeros are allowed.
-pub fn read_number(word: &[u8], most: u64) -> Number
+pub fn read_number(word: &[u8], most: u64) -> Option<u64>
     ensures { result ≡ number_in word.now most }
 {
-    if word.len() == 0 {
-        return Number::Bad;
+    if word.is_empty() {
+        return None;
     }
     let mut value: u64 = 0;
-    let mut i = 0;
-    while i < word.len() {
-        let d = digit(word[i]);
-        if d > 9 {
-            return Number::Bad;
+    for b in word {
+        let d = digit(*b)?;
+        value = value.checked_mul(10)?.checked_add(d)?;
+        if value > most {
+            return None;
         }
-        if d > most {
-            return Number::Bad;
-        }
-        if value > (most - d) / 10 {
-            return Number::Bad;
-        }
-        value = value * 10 + d;
-        i += 1;
     }
-    Number::Value(value)
+    Some(value)
 }
 
-// The number that a word is, if it fits 16 bits.
-#[tactic(auto, unfolding(crate::specs::Number::number16_in))]
-pub fn read_number16(word: &[u8]) -> Number16
-    ensures { result ≡ number16_in word.now }
+// The number that a word is, if its type holds it.
+pub fn read_unsigned<T: Unsigned>(word: &[u8]) -> Option<T>
+    ensures { result ≡ number_as T.made word.now T.MOST }
 {
-    match read_number(word, 0xffff) {
-        Number::Bad => Number16::Bad,
-        Number::Value(v) => Number16::Value(v as u16),
-    }
+    let n = read_number(word, T::MOST)?;
+    Some(T::made(n))
 }
 
-// The number that a word is, if it fits 32 bits.
-#[tactic(auto, unfolding(crate::specs::Number::number32_in))]
-pub fn read_number32(word: &[u8]) -> Number32
-    ensures { result ≡ number32_in word.now }
-{
-    match read_number(word, 0xffffffff) {
-        Number::Bad => Number32::Bad,
-        Number::Value(v) => Number32::Value(v as u32),
-    }
-}
-
-// What a decimal digit counts; 10 for any other byte.
-#[tactic(auto, unfolding(crate::specs::Number::digit))]
-fn digit(b: u8) -> u64
+// What a decimal digit counts.
+fn digit(b: u8) -> Option<u64>
     ensures { result ≡ digit b }
 {
-    if b < 48 {
-        return 10;
+    match b {
+        b'0'..=b'9' => Some((b - b'0') as u64),
+        _ => None,
     }
-    if b > 57 {
-        return 10;
-    }
-    (b - 48) as u64
 }

@@ -13,14 +13,7 @@ pub const MOST_OUTPUT: usize = 2048;
 fn is_filled(bytes: &[u8], b: u8) -> bool
     ensures { result ≡ is_filled b bytes.now }
 {
-    let mut i = 0;
-    while i < bytes.len() {
-        if bytes[i] != b {
-            return false;
-        }
-        i += 1;
-    }
-    true
+    bytes.iter().all(|x| *x == b)
 }
 
 // Whether every lent byte past the written ones is as it was.

@@ -1,131 +1,116 @@
-// Text put into a buffer, piece after piece. Each function takes the place where its text begins and returns the place after it; a buffer that is too short
-// takes as much as fits.
-ghost use Rattle.std.specs.Prelude.{◌≡◌, [], ◌∷◌, ◌/◌, ◌%◌, ◌<◌, length};
-ghost use Rattle.text.specs.Put.{place_after, laid, field, last_field, fields, rest_word, end_words, bad_line};
+// Text put into a lent buffer, piece after piece; a buffer that is too short takes as much as fits.
+ghost use Rattle.std.specs.Prelude.{◌≡◌, [], ◌∷◌, ◌/◌, ◌%◌, ◌<◌};
+ghost use Rattle.text.specs.Put.{put_after, field, last_field, fields, rest_word, end_words, bad_line};
 ghost use Rattle.text.specs.Number.{decimal};
 ghost use Rattle.text.specs.ByteString.{hex_digit, hex_of, hex_word};
 
 use crate::decimal::decimal;
 use lists::copy::copy;
 
-// Puts bytes.
-pub fn put(out: &mut [u8], at: usize, src: &[u8]) -> usize
-    ensures value { result ≡ place_after at (length src.now) (length out.old) }
-    ensures out_after { out.new ≡ laid at src.now out.old }
-{
-    if at > out.len() {
-        return at;
+// A lent buffer, and the place in it where the next piece of text begins.
+#[derive(Drop)]
+pub struct Text<'a> {
+    pub out: &'a mut [u8],
+    pub at: usize,
+}
+
+impl Text<'_> {
+    // Puts bytes.
+    pub fn put(&mut self, src: &[u8])
+        ensures { self.new ≡ put_after src.now self.old }
+    {
+        if self.at > self.out.len() {
+            return;
+        }
+        self.at += copy(src, &mut self.out[self.at..]);
     }
-    let left = out.len() - at;
-    if src.len() > left {
-        copy(&src[..left], &mut out[at..]);
-        return out.len();
+
+    // Puts a number's decimal digits.
+    pub fn put_number(&mut self, n: u64)
+        ensures { self.new ≡ put_after (decimal n) self.old }
+    {
+        let mut digits = [0u8; 20];
+        let k = decimal(n, &mut digits);
+        self.put(&digits[..k]);
     }
-    copy(src, &mut out[at..]);
-    at + src.len()
-}
 
-// Puts a number's decimal digits.
-pub fn put_number(out: &mut [u8], at: usize, n: u64) -> usize
-    ensures value { result ≡ place_after at (length (decimal n)) (length out.old) }
-    ensures out_after { out.new ≡ laid at (decimal n) out.old }
-{
-    let mut digits = [0u8; 20];
-    let k = decimal(n, &mut digits);
-    put(out, at, &digits[..k])
-}
-
-// Puts bytes in lower-case hexadecimal, or `-` for none.
-pub fn put_bytes(out: &mut [u8], at: usize, src: &[u8]) -> usize
-    ensures value { result ≡ place_after at (length (hex_word src.now)) (length out.old) }
-    ensures out_after { out.new ≡ laid at (hex_word src.now) out.old }
-{
-    if src.len() == 0 {
-        return put(out, at, b"-");
+    // Puts bytes in lower-case hexadecimal, or `-` for none.
+    pub fn put_bytes(&mut self, src: &[u8])
+        ensures { self.new ≡ put_after (hex_word src.now) self.old }
+    {
+        if src.is_empty() {
+            self.put(b"-");
+            return;
+        }
+        for b in src {
+            self.put(&digits_of(*b));
+        }
     }
-    put_hex(out, at, src)
-}
 
-// Puts a word that others follow: the word and a space.
-pub fn put_field(out: &mut [u8], at: usize, word: &[u8]) -> usize
-    ensures value { result ≡ place_after at (length (field word.now)) (length out.old) }
-    ensures out_after { out.new ≡ laid at (field word.now) out.old }
-{
-    let next = put(out, at, word);
-    put(out, next, b" ")
-}
-
-// Puts a number that others follow.
-pub fn put_number_field(out: &mut [u8], at: usize, n: u64) -> usize
-    ensures value { result ≡ place_after at (length (field (decimal n))) (length out.old) }
-    ensures out_after { out.new ≡ laid at (field (decimal n)) out.old }
-{
-    let next = put_number(out, at, n);
-    put(out, next, b" ")
-}
-
-// Puts bytes that others follow.
-pub fn put_bytes_field(out: &mut [u8], at: usize, src: &[u8]) -> usize
-    ensures value { result ≡ place_after at (length (field (hex_word src.now))) (length out.old) }
-    ensures out_after { out.new ≡ laid at (field (hex_word src.now)) out.old }
-{
-    let next = put_bytes(out, at, src);
-    put(out, next, b" ")
-}
-
-// Puts what a line that cannot be read prints.
-pub fn put_bad_line(out: &mut [u8], at: usize) -> usize
-    ensures value { result ≡ place_after at (length bad_line) (length out.old) }
-    ensures out_after { out.new ≡ laid at bad_line out.old }
-{
-    put(out, at, b"bad line\n")
-}
-
-// Puts a line's last four words and its line feed: whether the bytes past the written ones are as they were, and what was remarked on the options.
-pub fn put_end(out: &mut [u8], at: usize, kept: bool, skipped: u64, used: u64, broken: u64) -> usize
-    ensures value { result ≡ place_after at (length (fields (end_words kept skipped used broken))) (length out.old) }
-    ensures out_after { out.new ≡ laid at (fields (end_words kept skipped used broken)) out.old }
-{
-    let a = put_rest(out, at, kept);
-    let b = put_number_field(out, a, skipped);
-    let c = put_number_field(out, b, used);
-    put_last_number(out, c, broken)
-}
-
-// Puts whether the bytes past the written ones are as they were.
-fn put_rest(out: &mut [u8], at: usize, kept: bool) -> usize
-    ensures value { result ≡ place_after at (length (field (rest_word kept))) (length out.old) }
-    ensures out_after { out.new ≡ laid at (field (rest_word kept)) out.old }
-{
-    if kept {
-        put(out, at, b"kept ")
-    } else {
-        put(out, at, b"changed ")
+    // Puts a word that others follow: the word and a space.
+    #[tactic(auto, using(crate::proofs::Puts::puts))]
+    pub fn put_field(&mut self, word: &[u8])
+        ensures { self.new ≡ put_after (field word.now) self.old }
+    {
+        self.put(word);
+        self.put(b" ");
     }
-}
 
-// Puts a number and a line feed.
-fn put_last_number(out: &mut [u8], at: usize, n: u64) -> usize
-    ensures value { result ≡ place_after at (length (last_field (decimal n))) (length out.old) }
-    ensures out_after { out.new ≡ laid at (last_field (decimal n)) out.old }
-{
-    let end = put_number(out, at, n);
-    put(out, end, b"\n")
-}
-
-fn put_hex(out: &mut [u8], at: usize, src: &[u8]) -> usize
-    ensures value { result ≡ place_after at (length (hex_of src.now)) (length out.old) }
-    ensures out_after { out.new ≡ laid at (hex_of src.now) out.old }
-{
-    let mut to = at;
-    let mut i = 0;
-    while i < src.len() {
-        let pair = digits_of(src[i]);
-        let next = put(out, to, &pair);
-        to = next;
-        i += 1;
+    // Puts a number that others follow.
+    #[tactic(auto, using(crate::proofs::Puts::puts))]
+    pub fn put_number_field(&mut self, n: u64)
+        ensures { self.new ≡ put_after (field (decimal n)) self.old }
+    {
+        self.put_number(n);
+        self.put(b" ");
     }
-    to
+
+    // Puts bytes that others follow.
+    #[tactic(auto, using(crate::proofs::Puts::puts))]
+    pub fn put_bytes_field(&mut self, src: &[u8])
+        ensures { self.new ≡ put_after (field (hex_word src.now)) self.old }
+    {
+        self.put_bytes(src);
+        self.put(b" ");
+    }
+
+    // Puts a number and a line feed.
+    #[tactic(auto, using(crate::proofs::Puts::puts))]
+    pub fn put_last_number(&mut self, last: u64)
+        ensures { self.new ≡ put_after (last_field (decimal last)) self.old }
+    {
+        self.put_number(last);
+        self.put(b"\n");
+    }
+
+    // Puts what a line that cannot be read prints.
+    pub fn put_bad_line(&mut self)
+        ensures { self.new ≡ put_after bad_line self.old }
+    {
+        self.put(b"bad line\n");
+    }
+
+    // Puts a line's last four words and its line feed: whether the bytes past the written ones are as they were, and what was remarked on the options.
+    #[tactic(auto, using(crate::proofs::Puts::puts), unfolding(crate::specs::Put::fields))]
+    pub fn put_end(&mut self, kept: bool, skipped: u64, used: u64, broken: u64)
+        ensures { self.new ≡ put_after (fields (end_words kept skipped used broken)) self.old }
+    {
+        self.put_rest(kept);
+        self.put_number_field(skipped);
+        self.put_number_field(used);
+        self.put_last_number(broken);
+    }
+
+    // Puts whether the bytes past the written ones are as they were.
+    fn put_rest(&mut self, kept: bool)
+        ensures { self.new ≡ put_after (field (rest_word kept)) self.old }
+    {
+        if kept {
+            self.put(b"kept ");
+        } else {
+            self.put(b"changed ");
+        }
+    }
 }
 
 fn digits_of(b: u8) -> [u8; 2]

@@ -11,7 +11,8 @@ use std::io::Read;
 // How many bytes one read may bring.
 pub const INPUT: usize = 65536;
 
-// Where the next part of the input begins and where what was read ends; how long the line is and whether it is complete; how many parts may still be taken.
+// Where the next part of the input begins and where what was read ends; how long the line is so far and whether it is complete, since one that goes on is so
+// long too; how many parts may still be taken.
 #[derive(Clone, Copy, Drop)]
 pub struct Reader {
     pub next: usize,
@@ -39,19 +40,7 @@ pub fn new_reader() -> Reader
 fn length_before(r: Reader) -> usize
     ensures { result ≡ length_before r }
 {
-    if r.complete {
-        return 0;
-    }
-    r.len
-}
-
-fn one_less(n: u64) -> u64
-    ensures { result ≡ n - 1 }
-{
-    if n == 0 {
-        return 0;
-    }
-    n - 1
+    if r.complete { 0 } else { r.len }
 }
 
 // Adds what was read, from a place on, to the line: up to its line feed, or to the end of what was read.
@@ -65,7 +54,7 @@ fn take_part(r: Reader, line: &mut [u8], read: &[u8], from: usize) -> Reader
         end: read.len(),
         len: g.len,
         complete: g.complete,
-        left: one_less(r.left),
+        left: r.left.saturating_sub(1),
     }
 }
 
@@ -82,10 +71,7 @@ pub fn read_if_used_up<R: Read>(source: &mut R, r: Reader, input: &mut [u8]) -> 
     ensures input_unchanged { is_used_up r ≡ false → input.new ≡ input.old }
 {
     if is_used_up(r) {
-        return match source.read(input) {
-            Ok(n) => n,
-            Err(_) => 0,
-        };
+        return source.read(input).unwrap_or(0);
     }
     0
 }

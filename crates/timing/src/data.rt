@@ -1,8 +1,11 @@
 // The built-in data.
-ghost use Rattle.std.specs.Prelude.{◌<◌};
-
 use segment::checksum::add_bytes;
 use segment::write::{Opening, write_opening};
+use std::array;
+use text::part::first_mut;
+
+// The longest segment.
+pub(crate) const LONGEST: usize = 1520;
 
 pub(crate) const OWN_PORT: u16 = 443;
 
@@ -12,13 +15,6 @@ pub(crate) const PEER_PORT: u16 = 40000;
 pub(crate) const IRS: u32 = 1000;
 
 pub(crate) const MSS: u16 = 1460;
-
-// A byte as a number: a read of it then asks no proof that it fits.
-pub(crate) fn wide(b: u8) -> u64
-    ensures { result < 256 }
-{
-    b as u64
-}
 
 pub(crate) fn key() -> [u8; 16] {
     [0, 1, 2, 3, 4, 5, 6, 7, 8, 9, 10, 11, 12, 13, 14, 15]
@@ -46,29 +42,18 @@ pub(crate) fn other_peer(live: u64) -> [u8; 4] {
 }
 
 // Data, as many bytes of it as the longest segment has: byte i is 7 i + 3 modulo 256.
-pub(crate) fn bytes() -> [u8; 1520] {
-    let mut b = [0u8; 1520];
-    let mut i: usize = 0;
-    while i < 1520 {
-        b[i] = ((i * 7 + 3) % 256) as u8;
-        i += 1;
-    }
-    b
+pub(crate) fn bytes() -> [u8; LONGEST] {
+    array::from_fn(|i| ((i % 256 * 7 + 3) % 256) as u8)
 }
 
-// The first n bytes of a buffer, which goes in as an array: then no caller has to prove its length.
-pub(crate) fn first(s: &[u8; 1520], n: usize) -> &[u8] {
-    text::part::first(s, n)
-}
-
-// Writes an opening of the peer's with a Fast Open option: a cookie, or none to ask for one. Answers its length.
-pub(crate) fn put_opening(
-    out: &mut [u8; 1520],
+// Writes an opening of the peer's with a Fast Open option: a cookie, or none to ask for one. Answers the part that it takes.
+pub(crate) fn put_opening<'a>(
+    out: &'a mut [u8; LONGEST],
     peer: &[u8; 4],
     port: u16,
     cookie: &[u8],
     payload: &[u8],
-) -> usize {
+) -> &'a mut [u8] {
     let opening = Opening {
         source: port,
         dest: OWN_PORT,
@@ -76,33 +61,20 @@ pub(crate) fn put_opening(
         mss: MSS,
         fast: true,
     };
-    write_opening(out, peer, &own(), opening, cookie, payload)
+    let n = write_opening(out, peer, &own(), opening, cookie, payload);
+    first_mut(out, n)
 }
 
 // A completion's header of 20 bytes: flag ACK, window 65,535, urgent 0.
 fn header(seq: u32, ack: u32, check: u16) -> [u8; 20] {
-    [
-        (PEER_PORT / 256) as u8,
-        (PEER_PORT % 256) as u8,
-        (OWN_PORT / 256) as u8,
-        (OWN_PORT % 256) as u8,
-        (seq / 16777216) as u8,
-        (seq / 65536 % 256) as u8,
-        (seq / 256 % 256) as u8,
-        (seq % 256) as u8,
-        (ack / 16777216) as u8,
-        (ack / 65536 % 256) as u8,
-        (ack / 256 % 256) as u8,
-        (ack % 256) as u8,
-        80,
-        16,
-        255,
-        255,
-        (check / 256) as u8,
-        (check % 256) as u8,
-        0,
-        0,
-    ]
+    let mut header = [0u8; 20];
+    header[..2].copy_from_slice(&PEER_PORT.to_be_bytes());
+    header[2..4].copy_from_slice(&OWN_PORT.to_be_bytes());
+    header[4..8].copy_from_slice(&seq.to_be_bytes());
+    header[8..12].copy_from_slice(&ack.to_be_bytes());
+    header[12..16].copy_from_slice(&[80, 16, 255, 255]);
+    header[16..18].copy_from_slice(&check.to_be_bytes());
+    header
 }
 
 // A completion of the peer's with the right checksum: over IPv4's pseudo-header (protocol 6, length 20) and the header.

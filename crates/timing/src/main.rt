@@ -7,12 +7,11 @@ mod data;
 mod pieces;
 mod records;
 
+use calls::Task;
 use console::arguments::argument;
 use console::streams::{Console, Streams};
-use text::number::{Number, read_number};
-use text::part::first;
-use text::put::{put, put_number};
-use text::word::is_word;
+use std::io::Write;
+use text::number::read_number;
 
 fn print_usage(streams: &mut Console) {
     streams.offer(
@@ -20,62 +19,30 @@ fn print_usage(streams: &mut Console) {
     );
 }
 
-#[derive(Drop)]
-enum Digest {
-    Of(u64),
-    NoWork,
-}
-
-// The digest of the work that a word names.
-fn digest_of(work: &[u8], count: u64, live: u64, payload: u64) -> Digest {
-    let peer = data::peer(live);
-    if is_word(work, b"block") {
-        return Digest::Of(pieces::block(count));
-    }
-    if is_word(work, b"expand") {
-        return Digest::Of(pieces::expand(count));
-    }
-    if is_word(work, b"checksum") {
-        return Digest::Of(pieces::checksum(count, payload));
-    }
-    if is_word(work, b"options") {
-        return Digest::Of(pieces::options(count));
-    }
-    if is_word(work, b"early") {
-        return Digest::Of(calls::early(&peer, count, live, payload));
-    }
-    if is_word(work, b"turned") {
-        return Digest::Of(calls::turned(&peer, count, live, payload));
-    }
-    if is_word(work, b"shared") {
-        return Digest::Of(calls::shared(&peer, count, live, payload));
-    }
-    if is_word(work, b"request") {
-        return Digest::Of(calls::request(&peer, count, live));
-    }
-    if is_word(work, b"repeat") {
-        return Digest::Of(calls::repeat(&peer, count, live, payload));
-    }
-    if is_word(work, b"completion") {
-        return Digest::Of(calls::completion(&peer, count, live, payload));
-    }
-    if is_word(work, b"refusal") {
-        return Digest::Of(calls::refusal(&peer, count, live, payload));
-    }
-    if is_word(work, b"full") {
-        return Digest::Of(calls::full(&peer, count, payload));
-    }
-    if is_word(work, b"unknown") {
-        return Digest::Of(calls::unknown(&peer, count, live));
-    }
-    if is_word(work, b"walk") {
-        return Digest::Of(records::walk(count));
-    }
-    Digest::NoWork
+// The digest of the work that a word names, if it names one.
+fn digest_of(work: &[u8], task: &Task) -> Option<u64> {
+    let digest = match work {
+        b"block" => pieces::block(task.count),
+        b"expand" => pieces::expand(task.count),
+        b"checksum" => pieces::checksum(task.count, task.payload),
+        b"options" => pieces::options(task.count),
+        b"early" => task.early(),
+        b"turned" => task.turned(),
+        b"shared" => task.shared(),
+        b"request" => task.request(),
+        b"repeat" => task.repeat(),
+        b"completion" => task.completion(),
+        b"refusal" => task.refusal(),
+        b"full" => task.full(),
+        b"unknown" => task.unknown(),
+        b"walk" => records::walk(task.count).ok()?,
+        _ => return None,
+    };
+    Some(digest)
 }
 
 // The number in an argument.
-fn number_asked(rt: &HostRuntime, place: usize, most: u64) -> Number {
+fn number_asked(rt: &HostRuntime, place: usize, most: u64) -> Option<u64> {
     let mut word = [0u8; 32];
     let n = argument(rt, place, &mut word).unwrap_or(0);
     read_number(&word[..n], most)
@@ -83,29 +50,23 @@ fn number_asked(rt: &HostRuntime, place: usize, most: u64) -> Number {
 
 // The longest data that a work takes: a listener's segment has at most 1,460 bytes of it, a checksum at most a whole segment.
 fn longest(work: &[u8]) -> u64 {
-    if is_word(work, b"checksum") {
-        return 1520;
+    match work {
+        b"checksum" => 1520,
+        _ => 1460,
     }
-    1460
 }
 
-fn run(rt: &HostRuntime, streams: &mut Console, work: &[u8]) {
-    let Number::Value(count) = number_asked(rt, 2, u64::MAX) else {
-        return print_usage(streams);
-    };
-    let Number::Value(live) = number_asked(rt, 3, 64) else {
-        return print_usage(streams);
-    };
-    let Number::Value(payload) = number_asked(rt, 4, longest(work)) else {
-        return print_usage(streams);
-    };
-    let Digest::Of(digest) = digest_of(work, count, live, payload) else {
-        return print_usage(streams);
-    };
-    let mut line = [0u8; 21];
-    let n = put_number(&mut line, 0, digest);
-    let end = put(&mut line, n, b"\n");
-    streams.offer(first(&line, end));
+// What the arguments after the work ask for, if they are numbers in their ranges.
+fn task_asked(rt: &HostRuntime, work: &[u8]) -> Option<Task> {
+    let count = number_asked(rt, 2, u64::MAX)?;
+    let live = number_asked(rt, 3, 64)?;
+    let payload = number_asked(rt, 4, longest(work))?;
+    Some(Task {
+        peer: data::peer(live),
+        count,
+        live,
+        payload: payload as usize,
+    })
 }
 
 fn main(rt: HostRuntime) {
@@ -117,7 +78,13 @@ fn main(rt: HostRuntime) {
     if argument(&rt, 4, &mut none).is_none() || argument(&rt, 5, &mut none).is_some() {
         return print_usage(&mut streams);
     }
-    let mut work = [0u8; 16];
-    let n = argument(&rt, 1, &mut work).unwrap_or(0);
-    run(&rt, &mut streams, &work[..n]);
+    let mut word = [0u8; 16];
+    let n = argument(&rt, 1, &mut word).unwrap_or(0);
+    let work = &word[..n];
+    match task_asked(&rt, work).and_then(|task| digest_of(work, &task)) {
+        Some(digest) => {
+            let _ = writeln!(streams.out, "{digest}");
+        }
+        None => print_usage(&mut streams),
+    }
 }

@@ -3,13 +3,14 @@ use crate::calls::{add, first_listener};
 use crate::data;
 use endpoint::address::{Family, block_of};
 use packet::write::write_packet;
-use pcap::record::packet_in;
+use pcap::record::{RecordHead, packet_in};
 use pcap::walker::{Taken, Walker, new_walker, take_next};
 use pcap::write::{write_file_header, write_record};
 use protocol::state::Listener;
-use std::num::wrapping_add_u64;
+use segment::refusal::Refusal;
+use segment::write::LONGEST_SYN_ACK;
 use text::part::{first, rest};
-use text::put::put;
+use text::put::Text;
 use walk::feed::{feed, time_of};
 
 const RECORDS: u64 = 1000;
@@ -21,109 +22,81 @@ const SIZE: usize = 136024;
 const DATA: usize = 72;
 
 // Puts record n behind those before it.
-fn put_record(file: &mut [u8; SIZE], at: usize, n: u64) -> usize {
-    let source = [10, 0, (n / 256 % 256) as u8, (n % 256) as u8];
+fn put_record(file: &mut Text<'_>, n: u64) -> Result<(), Refusal> {
+    let [.., high, low] = n.to_be_bytes();
+    let source = [10, 0, high, low];
     let dest = [192, 0, 2, (2 + n % 2) as u8];
     let bytes = data::bytes();
-    let mut opening = [0u8; 1520];
-    let k = data::put_opening(
-        &mut opening,
+    let mut buffer = [0u8; data::LONGEST];
+    let opening = data::put_opening(
+        &mut buffer,
         &source,
         (40000 + n % 1000) as u16,
         &[],
-        data::first(&bytes, DATA),
+        first(&bytes, DATA),
     );
     let mut packet = [0u8; 1560];
-    let p = write_packet(
-        &mut packet,
-        Family::V4,
-        block_of(&source),
-        block_of(&dest),
-        data::first(&opening, k),
-    );
-    let m = p.len;
+    let source = block_of(&source);
+    let dest = block_of(&dest);
+    let m = write_packet(&mut packet, Family::V4, source, dest, opening)?;
+    let packet = first(&packet, m);
     let mut record = [0u8; 1600];
-    let r = write_record(
-        &mut record,
-        1,
-        999999,
-        (m % 65536) as u32,
-        first(&packet, m),
-    );
-    let len = r.len;
-    put(file, at, first(&record, len))
+    let r = write_record(&mut record, 1, 999999, (m % 65536) as u32, packet)?;
+    file.put(first(&record, r));
+    Ok(())
 }
 
-fn put_file_header(file: &mut [u8; SIZE]) -> usize {
-    let w = write_file_header(file);
-    w.len
-}
-
-fn capture() -> [u8; SIZE] {
-    let mut file = [0u8; SIZE];
-    let mut at = put_file_header(&mut file);
-    let mut n: u64 = 0;
-    while n < RECORDS {
-        let next = put_record(&mut file, at, n);
-        at = next;
-        n += 1;
+fn put_capture(file: &mut [u8; SIZE]) -> Result<(), Refusal> {
+    let at = write_file_header(file)?;
+    let mut file = Text { out: file, at };
+    for n in 0..RECORDS {
+        put_record(&mut file, n)?;
     }
-    file
+    Ok(())
 }
 
-// The listener and the walker, where it goes on, and the digest.
+// A walk: the listener and the walker, where it goes on, and the digest.
 #[derive(Drop)]
-struct Turn {
+struct CaptureWalk {
     listener: Listener,
     walker: Walker,
     at: usize,
     digest: u64,
 }
 
-// Takes the next record; behind the last one the walk begins anew, and behind the file header it takes the first at once.
-fn take_record(t: Turn, file: &[u8]) -> Turn {
-    let at = t.at;
-    let w = t.walker;
-    let listener = t.listener;
-    let digest = t.digest;
-    let s = take_next(w, file, at);
-    let taken = s.taken;
-    let walker = s.walker;
-    match taken {
-        Taken::Record(head) => {
-            let mut out = [0u8; 36];
-            let packet = packet_in(rest(file, at), head.captured);
-            let f = feed(
-                listener,
-                w.records,
-                head.seconds,
-                head.micros,
-                packet,
-                &mut out,
-            );
-            let o = f.outcome;
-            let event = o.event;
-            let fed = o.listener;
-            let timed = wrapping_add_u64(digest, time_of(head.seconds, head.micros));
-            Turn {
-                listener: fed,
-                walker,
-                at: s.next,
-                digest: add(timed, event, o.written, &out),
+impl CaptureWalk {
+    // Feeds the record at the walk's place.
+    fn feed_record(&mut self, file: &[u8], head: RecordHead) {
+        let mut out = [0u8; LONGEST_SYN_ACK];
+        let fed = feed(
+            self.listener,
+            self.walker.records,
+            head.seconds,
+            head.micros,
+            packet_in(rest(file, self.at), head.captured),
+            &mut out,
+        );
+        let outcome = fed.outcome;
+        self.listener = outcome.listener;
+        let time = time_of(head.seconds, head.micros);
+        let timed = self.digest.wrapping_add(time);
+        self.digest = add(timed, outcome.event, outcome.written, &out);
+    }
+
+    // Takes the next record; behind the last one the walk begins anew, and behind the file header it takes the first at once.
+    fn take_record(&mut self, file: &[u8]) {
+        let step = take_next(self.walker, file, self.at);
+        match step.taken {
+            Taken::Record(head) => self.feed_record(file, head),
+            Taken::Opened(_) => {}
+            _ => {
+                self.walker = new_walker();
+                self.at = 0;
+                return;
             }
         }
-        Taken::Opened(_) => Turn {
-            listener,
-            walker,
-            at: s.next,
-            digest,
-        },
-        _ => Turn {
-            listener,
-            walker: new_walker(),
-            at: 0,
-            digest,
-        },
+        self.walker = step.walker;
+        self.at = step.next;
     }
 }
 
@@ -133,23 +106,17 @@ fn turns_of(count: u64) -> u64 {
     c + c / RECORDS * 2 + 1
 }
 
-fn walk_again(file: &[u8], count: u64) -> u64 {
-    let mut t = Turn {
+pub(crate) fn walk(count: u64) -> Result<u64, Refusal> {
+    let mut file = [0u8; SIZE];
+    put_capture(&mut file)?;
+    let mut walk = CaptureWalk {
         listener: first_listener(),
         walker: new_walker(),
         at: 0,
         digest: 0,
     };
-    let turns = turns_of(count);
-    let mut turn: u64 = 0;
-    while turn < turns {
-        t = take_record(t, file);
-        turn += 1;
+    for _ in 0..turns_of(count) {
+        walk.take_record(&file);
     }
-    t.digest
-}
-
-pub(crate) fn walk(count: u64) -> u64 {
-    let file = capture();
-    walk_again(&file, count)
+    Ok(walk.digest)
 }

@@ -1,3 +1,3 @@
--- The laws: Fed (a record, as the code decides it). The theorems: Walk (a walk is its calls, and demand 3 holds of it).
+-- The laws: Fed (a record is fed where it is a call). The theorems: Walk (a walk is its calls, and demand 3 holds of it).
 pub mod Fed
 pub mod Walk

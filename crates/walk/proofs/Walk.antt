@@ -1,11 +1,11 @@
 -- A walk is its calls, demand 3 holds of it, and pieces are walked as the whole is. Assumes nothing.
+use Rattle.std.specs.Prelude.{Option, None, Some}
+use Rattle.segment.specs.Refusal.{all_clear}
 use Prim.Native.Nat.{ℕ, ◌+◌, ◌<◌, ◌^◌}
 use mathlib.Core.Path.{◌≡◌, refl, sym, ap, subst, ◌∙◌}
 use mathlib.Core.List.{List, [], ◌∷◌, ◌++◌, flatten}
-use mathlib.Core.Option.{Option, none, some}
 use native.Mathlib.Omega.{arith}
 use lib.ListN.{length}
-use Rattle.segment.specs.declared.refusal.Check.TheVariants.{Clear}
 use Rattle.protocol.specs.Call.{Call}
 use Rattle.protocol.specs.Step.{start_of, step, output_of}
 use Rattle.protocol.specs.Demand3.{listener_after}
@@ -27,8 +27,8 @@ unfolding walked walked_listener calls_of answers answers_of feed_of feed_output
 one_more r rs out_len later l place = go (call_of l.local place r.seconds r.micros r.packet out_len) refl
   where
     go : (o : Option Call) → call_of l.local place r.seconds r.micros r.packet out_len ≡ o → WalkIsCalls l place (r ∷ rs) out_len
-    go none e = let i = later l (place + 1) in record { listener = rw e i.listener; answered = rw e i.answered }
-    go (some c) e =
+    go None e = let i = later l (place + 1) in record { listener = rw e i.listener; answered = rw e i.answered }
+    go (Some c) e =
         let m = (step l c).listener in
         let i = subst (λ (x : LocalEndpoint). (walked_listener m (place + 1) rs out_len ≡ listener_after m (calls_of x (place + 1) rs out_len))
         × (answers_of (walked m (place + 1) rs out_len) ≡ answers m (calls_of x (place + 1) rs out_len))) (step_local l c)
@@ -56,7 +56,7 @@ calls_local l [] = refl
 calls_local l (c ∷ cs) = calls_local (step l c).listener cs ∙ step_local l c
 
 pub walk-demand3 : (own : List ℕ) (port : ℕ) (k : List ℕ) (calls : List Call) (place : ℕ) (rs : List Recorded) (out_len : ℕ)
-    → (start_of own port k).check ≡ Clear → WalkDemand3 own port k calls place rs out_len
+    → (start_of own port k).check ≡ all_clear → WalkDemand3 own port k calls place rs out_len
 walk-demand3 own port k calls place rs out_len e =
     let s = (start_of own port k).listener in
     record {
@@ -73,8 +73,8 @@ walk-demand3 own port k calls place rs out_len e =
 -- Places run on
 
 before-append : (o : Option Call) (cs ds : List Call) → before o (cs ++ ds) ≡ before o cs ++ ds
-before-append none cs ds = refl
-before-append (some c) cs ds = refl
+before-append None cs ds = refl
+before-append (Some c) cs ds = refl
 
 calls-append : (rs later : List Recorded) (out_len : ℕ) (local : LocalEndpoint) (place : ℕ)
     → calls_of local place (rs ++ later) out_len ≡ calls_of local place rs out_len ++ calls_of local (place + length rs) later out_len

@@ -1,8 +1,7 @@
 -- Document 02, Item 3: a walk over the records of a capture, and the list of calls that demand 3 has of it.
 -- Assumes nothing.
-use Rattle.std.specs.Prelude.{ℕ, ◌+◌, ◌≡◌, Bool, true, false, length}
+use Rattle.std.specs.Prelude.{ℕ, ◌+◌, ◌≡◌, Bool, true, false, length, Option, None, Some}
 use mathlib.Core.List.{List, [], ◌∷◌, ◌++◌, flatten}
-use Rattle.std.proofs.Math.Option.{Option, none, some}
 use Rattle.protocol.specs.Call.{Call}
 use Rattle.protocol.specs.Step.{start_of, step, output_of}
 use Rattle.protocol.specs.Demand3.{listener_after, Demand3}
@@ -40,8 +39,8 @@ walked_listener l place (r ∷ rs) out_len = walked_listener (happening l place 
 
 -- the calls of the fed records: places count skipped ones too
 abbrev pub before : Option Call → List Call → List Call
-before none cs = cs
-before (some c) cs = c ∷ cs
+before None cs = cs
+before (Some c) cs = c ∷ cs
 
 unfoldable pub calls_of : LocalEndpoint → ℕ → List Recorded → ℕ → List Call
 calls_of local place [] out_len = []

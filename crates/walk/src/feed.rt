@@ -5,13 +5,14 @@ ghost use Rattle.walk.specs.Feed.{millis, initial_number, is_fed_to, accepted_in
 
 use listener::calls::segment;
 use listener::outcome::{accepted_part, new_outcome};
-use packet::read::{Carried, find_tcp, source_part, tcp_part};
+use packet::read::{find_tcp, source_part, tcp_part};
 use protocol::outcome::{Event, Outcome};
 use protocol::state::{Listener, LocalEndpoint};
 use segment::options::no_remarks;
 use segment::refusal::Refusal;
 
-// What a record came to: a call's outcome, or, of a skipped one, one that is done and changes nothing, or 13.
+// What a record came to: a call's outcome, or, of a skipped one, one that is done and changes nothing, or 13. There is an outcome in both cases, since it
+// has the listener.
 #[derive(Clone, Copy, Drop)]
 pub struct Fed {
     pub is_fed: bool,
@@ -22,7 +23,7 @@ pub struct Fed {
 pub fn time_of(seconds: u32, micros: u32) -> u64
     ensures { result ≡ millis seconds micros }
 {
-    (seconds as u64) * 1000 + ((micros / 1000) as u64)
+    u64::from(seconds) * 1000 + u64::from(micros / 1000)
 }
 
 // Our initial number for the record at a place.
@@ -33,27 +34,22 @@ pub fn number_at(place: u64) -> u32
 }
 
 // Whether a record with this packet is fed to a listener with this endpoint.
+#[tactic(auto, unfolding(crate::specs::Feed::is_fed_to))]
 pub fn is_fed(local: LocalEndpoint, packet: &[u8]) -> bool
     ensures { result ≡ is_fed_to local packet.now }
 {
-    if !local.started {
-        return false;
-    }
-    let family = local.family;
-    let own = local.own;
-    match find_tcp(family, own, packet) {
-        Carried::Other => false,
-        Carried::Tcp(_) => true,
-    }
+    local.started && find_tcp(local.family, local.own, packet).is_some()
 }
 
 // The accepted part of a packet that was fed, and came to this event.
+#[tactic(auto, unfolding(crate::specs::Feed::accepted_in))]
 pub fn accepted_in(local: LocalEndpoint, packet: &[u8], e: Event) -> &[u8]
     ensures { result.now ≡ accepted_in local packet.now e }
 {
-    let family = local.family;
-    let own = local.own;
-    accepted_part(tcp_part(packet, find_tcp(family, own, packet)), e)
+    accepted_part(
+        tcp_part(packet, find_tcp(local.family, local.own, packet)),
+        e,
+    )
 }
 
 fn skipped(l: Listener, event: Event) -> Fed
@@ -66,6 +62,7 @@ fn skipped(l: Listener, event: Event) -> Fed
 }
 
 // Feeds the packet of the record at a place, counted from 0 with skipped ones, to a listener.
+#[tactic(auto, unfolding(crate::specs::Feed::feed_of, crate::specs::Feed::feed_output, crate::specs::Feed::call_of))]
 pub fn feed(
     l: Listener,
     place: u64,
@@ -81,21 +78,19 @@ pub fn feed(
     if !local.started {
         return skipped(l, Event::Refused(Refusal::NotStarted));
     }
-    let family = local.family;
-    let own = local.own;
-    let carried = find_tcp(family, own, packet);
-    match carried {
-        Carried::Other => skipped(l, Event::Done),
-        Carried::Tcp(_) => Fed {
-            is_fed: true,
-            outcome: segment(
-                l,
-                time_of(seconds, micros),
-                source_part(family, packet),
-                tcp_part(packet, carried),
-                number_at(place),
-                out,
-            ),
-        },
+    let carried = find_tcp(local.family, local.own, packet);
+    if carried.is_none() {
+        return skipped(l, Event::Done);
+    }
+    Fed {
+        is_fed: true,
+        outcome: segment(
+            l,
+            time_of(seconds, micros),
+            source_part(local.family, packet),
+            tcp_part(packet, carried),
+            number_at(place),
+            out,
+        ),
     }
 }

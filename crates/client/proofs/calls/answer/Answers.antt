@@ -1,26 +1,27 @@
 -- By the checks.
-use Rattle.std.proofs.Common.{sym}
-use Rattle.client.proofs.Step.{answer_refused, answer-kept, answer_negative, answer-done}
-use Rattle.client.proofs.After.{brought_is, brought_most}
+use Rattle.std.proofs.Common.{◌≡◌, rules}
+use Rattle.client.specs.Step.{bans_after, step, moved}
+use Rattle.client.proofs.Step.{answer_dropped, answer_kept, answer_negative, answer-done}
+use Rattle.client.proofs.After.{brought_is}
 use Rattle.client.proofs.calls.answer.Goals as goal
+use Rattle.client.proofs.calls.answer.Goals.{then-is_negative, else-is_negative}
 
-pub learn-known-requires : goal.learn-known-requires
-learn-known-requires c =
+pub returns-in-Err : goal.returns-in-Err
+unfolding step
+returns-in-Err c =
     let a = c.args in
-    rw (brought_is a.codings a.seg.now c.segment_options-found.ensures c.option_area.ensures c.cookie.ensures).0 (brought_most a.codings a.seg.now)
+    rw (answer_dropped a.m a.time a.own.now a.server.now a.a a.seg.now a.codings c.in-Err.ensures) c.refused.ensures
 
-pub returns-in-Dropped : goal.returns-in-Dropped
-returns-in-Dropped c =
+pub returns : goal.returns
+returns c =
     let a = c.args in
-    answer_refused a.m a.time a.own.now a.server.now a.a a.seg.now a.codings c.refused.ensures (sym c.in-Dropped.ensures)
-
-pub returns-in-Acknowledged : goal.returns-in-Acknowledged
-returns-in-Acknowledged c =
-    let a = c.args in
-    let k = sym c.in-Acknowledged.ensures in
+    let heard = c.in-Ok.ensures in
     let report = c.segment_options-found.ensures in
-    let named = answer-kept a.m a.time a.own.now a.server.now a.a a.seg.now a.codings k c.block_of-b.ensures in
-    let brings = brought_is a.codings a.seg.now report c.option_area.ensures c.cookie.ensures in
-    let negative = answer_negative a.m a.time a.own.now a.server.now a.a a.seg.now a.codings k report c.is_negative-negative.ensures in
-    answer-done a.m a.time a.own.now a.server.now a.a a.seg.now a.codings k
-    c.at_time-next.ensures named brings.0 brings.1 report c.learn-known.ensures negative c.ban_if-learnt.ensures c.new_outcome.ensures
+    let named = answer_kept a.m a.time a.own.now a.server.now a.a a.seg.now a.codings heard c.block_of-b.ensures in
+    let brings = brought_is a.codings a.seg.now report c.option_area-area.ensures c.cookie.ensures in
+    let negative = answer_negative a.m a.time a.own.now a.server.now a.a a.seg.now a.codings heard report c.is_negative.ensures in
+    let at = c.at_time-next.result in
+    let next : c.if-is_negative.next ≡ moved at at.clock c.learn.new.cache (bans_after a.time c.block_of-b.result a.a.dest c.is_negative.result at.bans) =
+    elim c.if-is_negative.branch [ then-is_negative w ↦ search rules | else-is_negative w ↦ search rules ] in
+    answer-done a.m a.time a.own.now a.server.now a.a a.seg.now a.codings heard
+    c.at_time-next.ensures named brings.0 brings.1 report c.learn.ensures negative next c.new_outcome.ensures

@@ -1,4 +1,5 @@
+-- The parts of the file that may still be taken: each turn takes one.
 use Rattle.compare.proofs.setup.read_setup.Given as goal
 
-abbrev pub decreases-loop-s : goal.decreases-loop-s
-decreases-loop-s g l = l.s.reader.left
+abbrev pub decreases-loop-reader : goal.decreases-loop-reader
+decreases-loop-reader g l = l.reader.left

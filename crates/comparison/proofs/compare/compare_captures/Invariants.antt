@@ -2,8 +2,8 @@
 use Rattle.comparison.proofs.Running.{Running, left}
 use Rattle.comparison.proofs.compare.compare_captures.Given as goal
 
-abbrev pub invariant-loop-c : goal.invariant-loop-c
-invariant-loop-c l = Running l.first l.second l.initial.list l.initial.a l.list l.a
+abbrev pub invariant-loop-one : goal.invariant-loop-one
+invariant-loop-one l = Running l.first l.second l.initial.list l.initial.a l.list l.a
 
-abbrev pub decreases-loop-c : goal.decreases-loop-c
-decreases-loop-c l = left l.first l.second l.a
+abbrev pub decreases-loop-one : goal.decreases-loop-one
+decreases-loop-one l = left l.first l.second l.a

@@ -1,28 +1,38 @@
-use Rattle.std.proofs.Common.{◌<◌, ◌≤◌, length, rules}
+-- A byte more of each, or none.
+use Rattle.std.proofs.Common.{◌≡◌, ℕ, Bool, true, false, List, [], ◌∷◌, length, eqb, sym, ap, ◌∙◌, inl, inr, arith}
+use mathlib.Core.Bool.{◌&&◌}
+use Rattle.std.specs.Slice.Iter.{iter_rest}
+use Rattle.std.specs.Iterator.Adapters.{zip_first, zip_second}
 use Rattle.lists.specs.Bytes.{same_bytes}
-use Rattle.lists.proofs.CompareLoop.{differ, agree, at-end}
 use Rattle.endpoint.proofs.address.same_block.Goals as goal
-use Rattle.endpoint.proofs.address.same_block.Goals.{then-a-i, else-a-i}
 
-pub loop-i-preserved : goal.loop-i-preserved
-loop-i-preserved c =
-    let a = c.args.a in
-    let b = c.args.b in
-    let i = c.loop-i.i in
-    let ha : i < length a = search rules in
-    let hb : i < length b = search rules in
-    let v = c.loop-i.invariant in
-    let was = c.loop-i.same in
-    let whole = same_bytes a b in
-    elim c.if-a-i.branch [
-      | then-a-i w ↦ differ a b i was whole v ha hb c.if-a-i.same w.same-is w.if-a-i.true
-      | else-a-i w ↦ agree a b i was whole v ha hb c.if-a-i.same w.same-is w.if-a-i.false
-    ]
+one_more : (same : Bool) (x y : ℕ) (a b s t : List ℕ) (whole : Bool) → s ≡ x ∷ a → t ≡ y ∷ b → same && same_bytes s t ≡ whole → (same && eqb x y) && same_bytes a b ≡ whole
+unfolding same_bytes
+one_more true x y a b s t whole e f h = ap (λ (u : List ℕ). same_bytes u (y ∷ b)) (sym e) ∙ ap (same_bytes s) (sym f) ∙ h
+one_more false x y a b s t whole e f h = h
+
+none_left : (same : Bool) (s t : List ℕ) (whole : Bool) → length s ≡ 0 → length t ≡ 0 → same && same_bytes s t ≡ whole → same ≡ whole
+unfolding same_bytes
+none_left true [] [] whole e f h = h
+none_left false [] [] whole e f h = h
+none_left same (x ∷ s) t whole e f h = absurd (omega arith)
+none_left same [] (y ∷ t) whole e f h = absurd (omega arith)
+
+pub loop-x-preserved : goal.loop-x-preserved
+loop-x-preserved c =
+    let q = c.loop-x in
+    let v = c.in-Some.ensures.steps in
+    let s = iter_rest (zip_first q.x-iterator) in
+    let t = iter_rest (zip_second q.x-iterator) in
+    record {
+      level = omega (arith, ap length v.0, ap length v.1, q.invariant.level);
+      whole = one_more q.same c.in-Some.x.now c.in-Some.y.now _ _ s t _ v.0 v.1 q.invariant.whole;
+    }
 
 pub returns : goal.returns
 returns c =
-    let a = c.args.a in
-    let b = c.args.b in
-    let ha : length a ≤ c.loop-i.i = search rules in
-    let hb : length b ≤ c.loop-i.i = search rules in
-    at-end a b c.loop-i.i _ _ c.loop-i.invariant ha hb
+    let q = c.loop-x in
+    let s = iter_rest (zip_first q.x-iterator) in
+    let t = iter_rest (zip_second q.x-iterator) in
+    let n : (length s ≡ 0) × (length t ≡ 0) = elim c.in-None.ensures.steps [ inl v ↦ (v.1.0, omega (arith, v.1.0, q.invariant.level)) | inr v ↦ (omega (arith, v.1.0, q.invariant.level), v.1.0) ] in
+    none_left q.same s t _ n.0 n.1 q.invariant.whole

@@ -3,10 +3,10 @@ use Rattle.std.proofs.Common.{refl}
 use Rattle.protocol.specs.Step.{pending_number}
 use Rattle.listener.proofs.calls.pending.Goals as goal
 
-pub returns-then-local : goal.returns-then-local
+pub returns-then-l : goal.returns-then-l
 unfolding pending_number
-returns-then-local c = simp c.if-local.true c.count_pending.ensures
+returns-then-l c = simp c.if-l.true c.count_pending.ensures
 
 pub returns : goal.returns
 unfolding pending_number
-returns c = simp c.if-local.false refl
+returns c = simp c.if-l.false refl

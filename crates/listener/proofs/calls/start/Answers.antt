@@ -1,6 +1,6 @@
 -- By the checks.
 use Rattle.std.proofs.Common.{sym, ap, ◌∙◌}
-use Rattle.segment.specs.declared.refusal.Check.TheVariants.{Clear}
+use Rattle.segment.specs.Refusal.{all_clear}
 use Rattle.protocol.specs.declared.state.Listener.{Listener}
 use Rattle.protocol.proofs.StartOf.{start-address, start-key, start-done}
 use Rattle.listener.proofs.calls.start.Goals as goal
@@ -14,5 +14,5 @@ returns-then-key-ne16 c =
 
 pub returns : goal.returns
 returns c =
-    ap (λ (l : Listener). record { listener = l; check = Clear }) c.fresh_listener.ensures
+    ap (λ (l : Listener). record { listener = l; check = all_clear }) c.fresh_listener.ensures
     ∙ start-done c.args.own.now c.args.port c.args.key.now (sym c.if-not-is_size.ensures) c.if-key-ne16.false

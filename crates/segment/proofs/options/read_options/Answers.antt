@@ -1,31 +1,87 @@
--- The places, and what begins there.
-use Rattle.std.proofs.Common.{sym, ap, ◌∙◌, subst, ap₂}
-use Rattle.segment.specs.Places.{found_at, MssFits, FastFits}
-use Rattle.segment.specs.declared.options.Mss.{Mss}
-use Rattle.segment.specs.declared.options.FastOpenOption.{FastOpenOption}
+-- What is found and what is remarked, each by one step of its reading.
+use Rattle.std.proofs.Common.{◌≡◌, ℕ, ◌+◌, ◌≤◌, length, sym, refl, ap, ◌∙◌, ap₂, arith}
+use Rattle.segment.specs.Bytes.{byte_at}
+use Rattle.segment.specs.Options.{with_option, stands, read_options}
+use Rattle.segment.specs.Remarks.{with_remark, broken_at, remarks_in}
 use Rattle.segment.specs.declared.options.Options.{Options}
 use Rattle.segment.specs.declared.options.Remarks.{Remarks}
-use Rattle.segment.specs.declared.options.Places.{Places}
-use Rattle.segment.proofs.Places.{places-mss, places_fast, places-found, places_remarks}
+use Rattle.segment.specs.declared.options.Report.{Report}
+use Rattle.segment.proofs.ReadFrom.{read_at, ends, passes_one, passes_option, breaks_off, none_left}
+use Rattle.segment.proofs.Remarks.{skipped-most}
 use Rattle.segment.proofs.options.read_options.Goals as goal
 
-pub mss_from-mss-requires : goal.mss_from-mss-requires
-mss_from-mss-requires c =
-    let a = c.args in
-    subst (λ (p : Places). MssFits a.area.now p.mss_at) (sym c.find_options-found.ensures) (places-mss a.codings a.area.now)
+-- the report, from what is found and what is remarked
+both : {o u : Options} {r v : Remarks} → o ≡ u → r ≡ v → ◌≡◌ {A = Report} (record { options = o; remarks = r }) (record { options = u; remarks = v })
+both e f = ap₂ (λ (o : Options) (r : Remarks). record { options = o; remarks = r }) e f
 
-pub fast_from-fast-requires : goal.fast_from-fast-requires
-fast_from-fast-requires c =
-    let a = c.args in
-    subst (λ (p : Places). FastFits a.codings a.area.now p.remarks.used) (sym c.find_options-found.ensures) (places_fast a.codings a.area.now)
+pub loop-at-init : goal.loop-at-init
+unfolding read_options remarks_in
+loop-at-init c =
+    let s = c.args.area.now in
+    let e = c.no_remarks-remarks.ensures in
+    record {
+      passed = omega arith;
+      skipped = rw e (omega arith);
+      found = refl;
+      remarked = ap (λ (r : Remarks). read_at (with_remark c.args.codings s) broken_at s 0 r) e;
+    }
+
+pub returns-in-0 : goal.returns-in-0
+returns-in-0 c =
+    let q = c.loop-at in
+    let s = c.args.area.now in
+    let g = c.args.codings in
+    both (sym (ends (with_option g s) stands s q.at q.options (omega arith) c.in-0.is) ∙ q.invariant.found)
+    (sym (ends (with_remark g s) broken_at s q.at q.remarks (omega arith) c.in-0.is) ∙ q.invariant.remarked)
+
+pub loop-at-preserved-in-1 : goal.loop-at-preserved-in-1
+loop-at-preserved-in-1 c =
+    let q = c.loop-at in
+    let s = c.args.area.now in
+    let g = c.args.codings in
+    record {
+      passed = omega arith;
+      skipped = omega arith;
+      found = sym (passes_one (with_option g s) stands s q.at q.options (omega arith) c.in-1.is) ∙ q.invariant.found;
+      remarked = sym (passes_one (with_remark g s) broken_at s q.at q.remarks (omega arith) c.in-1.is) ∙ q.invariant.remarked;
+    }
+
+pub returns-in_default-option_at : goal.returns-in_default-option_at
+returns-in_default-option_at c =
+    let q = c.loop-at in
+    let s = c.args.area.now in
+    let g = c.args.codings in
+    let v = sym c.in_default-option_at.ensures.variant in
+    both (sym (breaks_off (with_option g s) stands s q.at q.options (omega arith) (λ z. omega arith) (λ z. omega arith) v) ∙ q.invariant.found)
+    (sym (breaks_off (with_remark g s) broken_at s q.at q.remarks (omega arith) (λ z. omega arith) (λ z. omega arith) v) ∙ q.invariant.remarked)
+
+pub loop-at-preserved : goal.loop-at-preserved
+loop-at-preserved c =
+    let q = c.loop-at in
+    let s = c.args.area.now in
+    let g = c.args.codings in
+    let v = sym c.in-Some.ensures.variant in
+    let o = c.in-Some.ensures.found in
+    let l = byte_at s (q.at + 1) in
+    let options : c.with_option-options.result ≡ with_option g s q.options q.at l = c.with_option-options.ensures ∙ (λ i. with_option g (o.0 i) q.options (o.1 i) (o.2 i)) in
+    let remarks : c.with_remark-remarks.result ≡ with_remark g s q.remarks q.at l = c.with_remark-remarks.ensures ∙ (λ i. with_remark g (o.0 i) q.remarks (o.1 i) (o.2 i)) in
+    let on : q.at + c.in-Some.option.len ≡ q.at + l = ap (λ (k : ℕ). q.at + k) o.2 in
+    let fits : (2 ≤ c.in-Some.option.len) × (q.at + c.in-Some.option.len ≤ length s) = omega (arith, c.in-Some.option.fits, o.1, ap length o.0) in
+    record {
+      passed = fits.1;
+      skipped = rw remarks (omega (arith, skipped-most g s q.at l q.remarks, fits));
+      found =
+          ap₂ (read_at (with_option g s) stands s) on options
+          ∙ sym (passes_option (with_option g s) stands s q.at q.options (omega arith) (λ z. omega arith) (λ z. omega arith) v) ∙ q.invariant.found;
+      remarked =
+          ap₂ (read_at (with_remark g s) broken_at s) on remarks
+          ∙ sym (passes_option (with_remark g s) broken_at s q.at q.remarks (omega arith) (λ z. omega arith) (λ z. omega arith) v) ∙ q.invariant.remarked;
+    }
 
 pub returns : goal.returns
 returns c =
-    let a = c.args in
-    let e = c.find_options-found.ensures in
-    let options =
-    ap₂ (λ (m : Mss) (f : FastOpenOption). record { mss = m; fast = f }) c.mss_from-mss.ensures c.fast_from-fast.ensures
-    ∙ ap (found_at a.codings a.area.now) e ∙ places-found a.codings a.area.now
-    in
-    let remarks = ap (λ (p : Places). p.remarks) e ∙ places_remarks a.codings a.area.now in
-    ap₂ (λ (o : Options) (r : Remarks). record { options = o; remarks = r }) options remarks
+    let q = c.loop-at in
+    let s = c.args.area.now in
+    let g = c.args.codings in
+    both (sym (none_left (with_option g s) stands s q.at q.options (omega arith)) ∙ q.invariant.found)
+    (sym (none_left (with_remark g s) broken_at s q.at q.remarks (omega arith)) ∙ q.invariant.remarked)

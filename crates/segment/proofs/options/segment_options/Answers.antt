@@ -11,9 +11,9 @@ pub returns-then-has_syn : goal.returns-then-has_syn
 unfolding options_of remarks_of
 returns-then-has_syn c = rw (sym c.if-has_syn.ensures) (c.read_options-found.ensures ∙ ap (report_in _) c.option_area.ensures)
 
-pub returns : goal.returns
+pub returns-else-has_syn : goal.returns-else-has_syn
 unfolding options_of remarks_of
-returns c =
+returns-else-has_syn c =
     let e = c.read_options-found.ensures ∙ ap (report_in _) c.option_area.ensures in
     rw (sym c.if-has_syn.ensures)
     (ap₂ (λ (o : Options) (r : Remarks). record { options = o; remarks = r }) (ap (λ (x : Report). if_syn false x.options) e) c.no_remarks.ensures)

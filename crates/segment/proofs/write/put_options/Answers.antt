@@ -15,7 +15,7 @@ returns-then-not-fast c =
     let o = a.out.now in
     let x = c.append-a.ensures in
     let w = overwrote o (option_bytes a.mss a.fast a.coding a.cookie.now) _ _ (wrote_plain o a.mss a.fast a.coding a.cookie.now _ _ (ap not c.if-not-fast.true)
-    (more o [] (mss_bytes a.mss) o _ 0 _ (refl, refl) x.value x.out_after)) in
+    (more o [] (mss_bytes a.mss) o _ 0 _ (refl, refl) x.value (rw c.to_be_bytes.ensures at x.out_after))) in
     record { value = w.0; out_after = w.1 }
 
 pub put_prefix-b-requires : goal.put_prefix-b-requires
@@ -48,7 +48,7 @@ returns c =
     let y = c.put_prefix-b.ensures in
     let z = c.append-c.ensures in
     let p = c.pad.ensures in
-    let u = more o [] m o _ 0 _ (refl, refl) x.value x.out_after in
+    let u = more o [] m o _ 0 _ (refl, refl) x.value (rw c.to_be_bytes.ensures at x.out_after) in
     let v = more o m before _ _ _ _ u y.value y.out_after in
     let w = more o (m ++ before) ck _ _ _ _ v z.value z.out_after in
     let e = overwrote o (option_bytes a.mss a.fast a.coding ck) _ _ (wrote_fast o a.mss a.fast a.coding ck _ _ (ap not c.if-not-fast.false)

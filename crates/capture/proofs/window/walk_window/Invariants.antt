@@ -1,4 +1,0 @@
-use Rattle.capture.proofs.window.walk_window.Given as goal
-
-abbrev pub decreases-loop-turns : goal.decreases-loop-turns
-decreases-loop-turns l = l.turns
