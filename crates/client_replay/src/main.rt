@@ -4,15 +4,8 @@
 
 use client::calls::never_started;
 use client_player::play::OnMemory;
-use console::streams::Streams;
 use text::play::play_lines;
 
 fn main(rt: HostRuntime) {
-    let mut streams = Streams {
-        out: rt.stdout(),
-        err: rt.stderr(),
-    };
-    play_lines::<OnMemory, _, _>(never_started(), &mut rt.stdin(), |text| {
-        streams.offer(text);
-    });
+    play_lines::<OnMemory, _, _>(never_started(), &mut rt.stdin(), &mut rt.stdout());
 }

@@ -2,17 +2,10 @@
 // complete, so that the program can be driven through a pipe.
 #![tactic(auto)]
 
-use console::streams::Streams;
 use listener::calls::never_started;
 use player::play::OnListener;
 use text::play::play_lines;
 
 fn main(rt: HostRuntime) {
-    let mut streams = Streams {
-        out: rt.stdout(),
-        err: rt.stderr(),
-    };
-    play_lines::<OnListener, _, _>(never_started(), &mut rt.stdin(), |text| {
-        streams.offer(text);
-    });
+    play_lines::<OnListener, _, _>(never_started(), &mut rt.stdin(), &mut rt.stdout());
 }

@@ -7,7 +7,7 @@ use crate::line::{LONGEST, Reply, is_silent};
 use crate::part::first;
 use crate::put::Text;
 use crate::reader::{INPUT, new_reader, read_if_used_up, take_next};
-use std::io::Read;
+use std::io::{Read, Write};
 
 // A buffer of so many bytes takes the text of any line.
 pub const TEXT: usize = 4096;
@@ -72,14 +72,13 @@ pub fn play_line<P: Play>(
     P::play_request(state, line, text)
 }
 
-// Plays all lines of a source, each as soon as it is complete, hands the text of each to `tell`, and returns what was played on. A proved loop has to end,
+// Plays all lines of a source, each as soon as it is complete, writes the text of each, if it can, and returns what was played on. A proved loop has to end,
 // and the source need not: its parts are counted down from a number that no script uses up.
-pub fn play_lines<P: Play, R: Read, T: FnMut(&[u8])>(
+pub fn play_lines<P: Play, R: Read, W: Write>(
     start: P::State,
     source: &mut R,
-    mut tell: T,
+    out: &mut W,
 ) -> P::State
-    requires { T.IsAlwaysCallable tell }
     ensures { Reaches P.asked start result }
 {
     let mut input = [0u8; INPUT];
@@ -92,7 +91,7 @@ pub fn play_lines<P: Play, R: Read, T: FnMut(&[u8])>(
         if reader.complete {
             let mut text = [0u8; TEXT];
             let played = play_line::<P>(state, first(&line, reader.len), reader.len, &mut text);
-            tell(first(&text, played.len));
+            let _ = out.write_all(first(&text, played.len));
             state = played.state;
         }
     }
