@@ -1,7 +1,6 @@
 // The text of the replay programs: a line's words, numbers and byte strings are read, an outcome's line is put into a buffer, and standard input is taken part by part.
 //
-// No public function has a precondition, but for `play_lines`, whose closure has to be one that can be called: of a word that is no number or no byte string
-// nothing is read, and a buffer takes as many bytes as fit.
+// No public function has a precondition: of a word that is no number or no byte string nothing is read, and a buffer takes as many bytes as fit.
 #![tactic(auto)]
 
 pub mod argument;
