@@ -69,11 +69,12 @@ fn run<'a>(rt: &HostRuntime, streams: &mut Console, names: Names<'a>) -> Result<
                 return Ok(());
             }
             let file = create(rt, name).map_err(|error| Failure { what: name, error })?;
-            Some(Output::new(name, file))
+            Some(Output { name, file })
         }
     };
     let listener = setup::play_setup(streams, &mut setup);
-    walk_capture(listener, streams, &mut capture, names.capture, out)
+    walk_capture(listener, streams, &mut capture, names.capture, out);
+    Ok(())
 }
 
 // The name in an argument, if there is one.

@@ -35,32 +35,19 @@ pub(crate) struct Failure<'a> {
     pub(crate) error: Error,
 }
 
-// The file for the packets, and those that are gathered.
+// The file for the packets.
 #[derive(Drop)]
 pub(crate) struct Output<'a> {
-    name: &'a [u8],
-    file: File,
-    packets: Gathered<ROOM>,
+    pub(crate) name: &'a [u8],
+    pub(crate) file: File,
 }
 
 impl<'a> Output<'a> {
-    pub(crate) fn new(name: &'a [u8], file: File) -> Output<'a> {
-        let mut packets = Gathered::new();
-        packets.put_file_header();
-        Output {
-            name,
-            file,
-            packets,
-        }
-    }
-
-    fn write(&mut self) -> Result<(), Failure<'a>> {
+    fn write(&mut self, packets: &[u8]) -> Result<(), Failure<'a>> {
         let what = self.name;
         self.file
-            .write_all(self.packets.part())
-            .map_err(|error| Failure { what, error })?;
-        self.packets.clear();
-        Ok(())
+            .write_all(packets)
+            .map_err(|error| Failure { what, error })
     }
 }
 
@@ -110,19 +97,14 @@ struct Walk<'a> {
     fed: u64,
     skipped: u64,
     lines: Gathered<ROOM>,
+    packets: Gathered<ROOM>,
     out: Option<Output<'a>>,
 }
 
 impl<'a> Walk<'a> {
     // Whether there is room for the lines and the packets of one record more.
     fn has_room(&self) -> bool {
-        if self.lines.room() < FREE {
-            return false;
-        }
-        match &self.out {
-            Some(out) => out.packets.room() >= FREE,
-            None => true,
-        }
+        self.lines.room() >= FREE && self.packets.room() >= FREE
     }
 
     // Feeds the record at a place, and gathers its line and its packets.
@@ -149,9 +131,9 @@ impl<'a> Walk<'a> {
         self.listener = outcome.listener;
         self.lines
             .put_fed(outcome, &lent, accepted_in(local, packet, outcome.event));
-        if let Some(out) = &mut self.out {
+        if self.out.is_some() {
             let answer = first(&lent, outcome.written);
-            out.packets.put_packets(local, head, packet, answer);
+            self.packets.put_packets(local, head, packet, answer);
         }
     }
 
@@ -191,10 +173,11 @@ impl<'a> Walk<'a> {
     fn write_gathered(&mut self, streams: &mut Console) -> Result<(), Failure<'a>> {
         print(streams, self.lines.part())?;
         self.lines.clear();
-        match &mut self.out {
-            Some(out) => out.write(),
-            None => Ok(()),
+        if let Some(out) = &mut self.out {
+            out.write(self.packets.part())?;
+            self.packets.clear();
         }
+        Ok(())
     }
 
     // Tells how far the walk is.
@@ -220,57 +203,74 @@ impl<'a> Walk<'a> {
         }
         print(streams, text.part())
     }
+
+    // Takes all of a capture.
+    fn go(
+        &mut self,
+        streams: &mut Console,
+        capture: &mut Source,
+        name: &'a [u8],
+    ) -> Result<(), Failure<'a>> {
+        let mut window = Window::new();
+        let mut input = [0u8; INPUT];
+        let tells = streams.err.is_terminal() && !streams.out.is_terminal();
+        let mut told = 0;
+        // a proved loop has to end, and the capture need not: no run uses up so many turns
+        for _ in 0..u64::MAX {
+            let stop = self.take_all(&mut window);
+            self.write_gathered(streams)?;
+            if tells && self.walker.bytes.wrapping_sub(told) >= BEHIND {
+                self.tell_progress(streams);
+                told = self.walker.bytes;
+            }
+            match stop {
+                Stop::Full => {}
+                Stop::Over(why) => return self.print_end(streams, Err(why), tells),
+                Stop::Needing => {
+                    let n = capture
+                        .read(&mut input)
+                        .map_err(|error| Failure { what: name, error })?;
+                    if n == 0 {
+                        let check = finish(self.walker, window.part(), window.at);
+                        return self.print_end(streams, check, tells);
+                    }
+                    window.refill(first(&input, n));
+                }
+            }
+        }
+        Ok(())
+    }
 }
 
 fn print<'a>(streams: &mut Console, text: &[u8]) -> Result<(), Failure<'a>> {
-    streams.out.write_all(text).map_err(|error| Failure {
+    streams.write_all(text).map_err(|error| Failure {
         what: b"standard output",
         error,
     })
 }
 
-// Walks a capture. Progress is told where a person sees it, and not the lines.
+// Walks a capture. Progress is told where a person sees it, and not the lines. What fails is told while the file for the packets is open, since standard
+// error may be that file.
 pub(crate) fn walk_capture<'a>(
     listener: Listener,
     streams: &mut Console,
     capture: &mut Source,
     name: &'a [u8],
     out: Option<Output<'a>>,
-) -> Result<(), Failure<'a>> {
+) {
     let mut walk = Walk {
         listener,
         walker: new_walker(),
         fed: 0,
         skipped: 0,
         lines: Gathered::new(),
+        packets: Gathered::new(),
         out,
     };
-    let mut window = Window::new();
-    let mut input = [0u8; INPUT];
-    let tells = streams.err.is_terminal() && !streams.out.is_terminal();
-    let mut told = 0;
-    // a proved loop has to end, and the capture need not: no run uses up so many turns
-    for _ in 0..u64::MAX {
-        let stop = walk.take_all(&mut window);
-        walk.write_gathered(streams)?;
-        if tells && walk.walker.bytes.wrapping_sub(told) >= BEHIND {
-            walk.tell_progress(streams);
-            told = walk.walker.bytes;
-        }
-        match stop {
-            Stop::Full => {}
-            Stop::Over(why) => return walk.print_end(streams, Err(why), tells),
-            Stop::Needing => {
-                let n = capture
-                    .read(&mut input)
-                    .map_err(|error| Failure { what: name, error })?;
-                if n == 0 {
-                    let check = finish(walk.walker, window.part(), window.at);
-                    return walk.print_end(streams, check, tells);
-                }
-                window.refill(first(&input, n));
-            }
-        }
+    if walk.out.is_some() {
+        walk.packets.put_file_header();
     }
-    Ok(())
+    if let Err(failure) = walk.go(streams, capture, name) {
+        streams.fail(failure.what, failure.error);
+    }
 }

@@ -1,6 +1,6 @@
 -- The outcome of the start and of each call, refused and done, from what the checks come to. Assumes nothing.
 use Rattle.std.specs.Prelude.{Result, Err, Ok, Option}
-use Prim.Native.Nat.{ℕ, ◌≤◌}
+use Prim.Native.Nat.{ℕ, ◌^◌, ◌≤◌}
 use mathlib.Core.Path.{◌≡◌, refl, sym, ap, ◌∙◌}
 use mathlib.Core.Bool.{Bool, not, ◌&&◌}
 use mathlib.Core.List.{List, ◌++◌}
@@ -16,7 +16,7 @@ use Rattle.segment.specs.declared.refusal.Refusal.{Refusal}
 use Rattle.endpoint.specs.Address.{block}
 use Rattle.endpoint.specs.Checks.{is_untimely, timely, addressed}
 use Rattle.endpoint.proofs.Blocks.{family-short, kept}
-use Rattle.endpoint.proofs.Chain.{named-short}
+use Rattle.endpoint.proofs.Chain.{named-short, time-most}
 use Rattle.endpoint.proofs.Clear.{every-check}
 use Rattle.client.specs.Call.{Call, answer}
 use Rattle.client.specs.Refusals.{count_in, open_checks, answer_checks, call_check, reply_from}
@@ -85,6 +85,10 @@ module _ (m : Memory) (t : ℕ) (own server : List ℕ) (a : Attempt) (seg : Lis
     unfolding call_check
     answer_kept k = kept server (family-short m.family server (not-false _ (every-check the_checks answer_counted.0).1.1.1.0)) k
 
+    pub answer-time : t ≤ 2 ^ 48
+    unfolding call_check
+    answer-time = time-most m.clock t (every-check the_checks answer_counted.0).1.0
+
     -- a negative answer, by the count and the option that counts
     pub answer_negative : {r : Report} {negative : Bool} → r ≡ report_of g seg → negative ≡ is_unacknowledged a.sent n && not (has_cookie r.options.fast)
         → negative ≡ is_negative g a seg
@@ -107,3 +111,6 @@ module _ (m : Memory) (t : ℕ) (own server : List ℕ) (a : Attempt) (seg : Lis
 pub failed_kept : (m : Memory) (t : ℕ) (server : List ℕ) → refusal (timely m.started (is_untimely m.clock t) ++ addressed m.family server) ≡ all_clear
     → {b : List ℕ} → b ≡ block (take 16 server) → b ≡ block server
 failed_kept m t server clear e = kept server (named-short m.started (is_untimely m.clock t) m.family server clear) e
+
+pub failed-time : (m : Memory) (t : ℕ) (server : List ℕ) → refusal (timely m.started (is_untimely m.clock t) ++ addressed m.family server) ≡ all_clear → t ≤ 2 ^ 48
+failed-time m t server clear = time-most m.clock t (every-check (timely m.started (is_untimely m.clock t) ++ addressed m.family server) clear).1.0

@@ -92,7 +92,12 @@ impl Side {
 
 // Makes all turns that the windows allow. A proved loop has to end: a turn takes some bytes of a window.
 fn take_turns(c: Comparison, first: Window, second: Window, list: &mut [u64]) -> Advance {
-    let mut a = take_turn(c, first, second, list);
+    let mut a = Advance {
+        comparison: c,
+        turn: Turn::Went,
+        at1: first.at,
+        at2: second.at,
+    };
     for _ in 0..2 * WINDOW {
         if !matches!(a.turn, Turn::Went) {
             break;

@@ -1,8 +1,9 @@
 -- The first place where two lists differ, as it is found in their pairs; and lists that are equal byte by byte. Assumes nothing.
 use Rattle.std.specs.Prelude.{not, min, nat_eq, unwrap_or, Some}
 use Rattle.std.specs.List.{zip, position_from}
-use Rattle.std.proofs.Common.{◌≡◌, ℕ, suc, ◌+◌, Bool, true, false, cond, ◌&&◌, eqb, List, [], ◌∷◌, length, sym, refl, ap, ◌∙◌, zero-add, arith}
+use Rattle.std.proofs.Common.{◌≡◌, ℕ, suc, ◌+◌, Bool, true, false, cond, ◌&&◌, eqb, List, [], ◌∷◌, length, sym, refl, ap, ◌∙◌, zero-add, arith, eq-eqb, ne_eqb, eqb-true}
 use lib.Pointwise.{pointwise}
+use Rattle.lists.proofs.Bools.{one_test}
 use Rattle.lists.specs.Bytes.{same_bytes}
 use Rattle.comparison.specs.Difference.{parting}
 
@@ -33,3 +34,22 @@ equal_bytes [] [] = refl
 equal_bytes [] (y ∷ ys) = refl
 equal_bytes (x ∷ xs) [] = refl
 equal_bytes (x ∷ xs) (y ∷ ys) = ap (λ (t : Bool). eqb x y && t) (equal_bytes xs ys)
+
+one_more : (m n : ℕ) → eqb (suc m) (suc n) ≡ eqb m n
+one_more m n =
+    one_test (eqb (suc m) (suc n)) (eqb m n)
+    (λ e. eq-eqb m n (omega (arith, eqb-true (suc m) (suc n) e)))
+    (λ e. eq-eqb (suc m) (suc n) (omega (arith, eqb-true m n e)))
+
+-- lists of one length are the same where they part at the end
+pub same-parting : (a b : List ℕ) → length a ≡ length b → eqb (parting a b) (length a) ≡ same_bytes a b
+unfolding parting same_bytes
+same-parting [] [] e = eq-eqb 0 0 refl
+same-parting [] (y ∷ ys) e = absurd (omega arith)
+same-parting (x ∷ xs) [] e = absurd (omega arith)
+same-parting (x ∷ xs) (y ∷ ys) e = go (eqb x y) (same-parting xs ys (omega arith))
+  where
+    go : (t : Bool) → eqb (parting xs ys) (length xs) ≡ same_bytes xs ys
+        → eqb (cond t (suc (parting xs ys)) 0) (suc (length xs)) ≡ t && same_bytes xs ys
+    go true i = one_more (parting xs ys) (length xs) ∙ i
+    go false i = ne_eqb 0 (suc (length xs)) (λ e. omega arith)

@@ -3,7 +3,7 @@ ghost use Rattle.std.specs.Prelude.{◌≡◌, length};
 ghost use Rattle.comparison.specs.Account.{judged_as};
 ghost use Rattle.comparison.specs.Listing.{tallied, list_then};
 ghost use Rattle.comparison.specs.Site.{site_fed};
-ghost use Rattle.comparison.specs.Lockstep.{new_comparison, stay, gone, pair_difference, judged_with, advance_of, list_next};
+ghost use Rattle.comparison.specs.Lockstep.{new_comparison, stay, pair_difference, judged_with, advance_of, list_next};
 
 use crate::difference::{Judged, compare_answers};
 use crate::list::{Tally, new_tally, take_difference};
@@ -63,40 +63,13 @@ pub fn new_comparison(l: Listener) -> Comparison
     }
 }
 
-fn stand_still(comparison: Comparison, turn: Turn, at1: usize, at2: usize) -> Advance
-    ensures { result ≡ stay comparison turn at1 at2 }
-{
-    Advance {
-        comparison,
-        turn,
-        at1,
-        at2,
-    }
-}
-
-// Something was taken: both sites next, and the list.
-fn went(first: Site, second: Site, tally: Tally, at1: usize, at2: usize) -> Advance
-    ensures { result ≡ gone first second tally at1 at2 }
-{
-    Advance {
-        comparison: Comparison {
-            first,
-            second,
-            tally,
-        },
-        turn: Turn::Went,
-        at1,
-        at2,
-    }
-}
-
 // Feeds a record that has no pair.
-fn judge_alone(s: &Site, r: Record) -> Site
-    ensures { result ≡ site_fed s.now r.entry.behind r.entry.head r.entry.packet.now }
+fn judge_alone(s: &mut Site, r: Record)
+    ensures { s.new ≡ site_fed s.old r.entry.behind r.entry.head r.entry.packet.now }
 {
     let mut out = [0u8; LENT];
     let j = s.judge(r, &mut out);
-    j.site
+    *s = j.site;
 }
 
 // What was judged of a packet, with the answer in the output.
@@ -111,9 +84,9 @@ fn judged<'a>(j: &Judging, packet: &'a [u8], out: &'a [u8]) -> Judged<'a>
 }
 
 // Takes a fed record of each site.
-fn take_pair(c: &Comparison, r1: Record, r2: Record, list: &mut [u64]) -> Advance
-    ensures value { result ≡ gone (site_fed c.now.first r1.entry.behind r1.entry.head r1.entry.packet.now) (site_fed c.now.second r2.entry.behind r2.entry.head r2.entry.packet.now) (tallied (length list.old) c.now.tally (pair_difference c.now r1.entry.head r1.entry.packet.now r2.entry.head r2.entry.packet.now)) r1.entry.next r2.entry.next }
-    ensures list_after { list.new ≡ list_then c.now.tally (pair_difference c.now r1.entry.head r1.entry.packet.now r2.entry.head r2.entry.packet.now) list.old }
+fn take_pair(c: &mut Comparison, r1: Record, r2: Record, list: &mut [u64])
+    ensures value { c.new ≡ record { first = site_fed c.old.first r1.entry.behind r1.entry.head r1.entry.packet.now; second = site_fed c.old.second r2.entry.behind r2.entry.head r2.entry.packet.now; tally = tallied (length list.old) c.old.tally (pair_difference c.old r1.entry.head r1.entry.packet.now r2.entry.head r2.entry.packet.now) } }
+    ensures list_after { list.new ≡ list_then c.old.tally (pair_difference c.old r1.entry.head r1.entry.packet.now r2.entry.head r2.entry.packet.now) list.old }
 {
     let mut out1 = [0u8; LENT];
     let mut out2 = [0u8; LENT];
@@ -121,57 +94,80 @@ fn take_pair(c: &Comparison, r1: Record, r2: Record, list: &mut [u64]) -> Advanc
     let j2 = c.second.judge(r2, &mut out2);
     let d = compare_answers(judged(&j1, r1.packet, &out1), judged(&j2, r2.packet, &out2));
     let tally = take_difference(list, c.tally, d);
-    went(j1.site, j2.site, tally, r1.next, r2.next)
+    *c = Comparison {
+        first: j1.site,
+        second: j2.site,
+        tally,
+    };
 }
 
-// Makes a turn at a place of each window.
+// Makes a turn where the comparison lies, since a copy of it costs more than a skipped record: what it came to, and the places where it goes on.
 #[tactic(auto, unfolding(crate::specs::Lockstep::advance_of, crate::specs::Lockstep::list_next))]
-pub fn take_turn(c: Comparison, first: Window, second: Window, list: &mut [u64]) -> Advance
-    ensures value { result ≡ advance_of c first.entry.bytes.now first.entry.at first.entry.last second.entry.bytes.now second.entry.at second.entry.last (length list.old) }
-    ensures list_after { list.new ≡ list_next c first.entry.bytes.now first.entry.at first.entry.last second.entry.bytes.now second.entry.at second.entry.last list.old }
+fn go_on(
+    c: &mut Comparison,
+    first: Window,
+    second: Window,
+    list: &mut [u64],
+) -> (Turn, usize, usize)
+    ensures value { stay c.new result.0 result.1 result.2 ≡ advance_of c.old first.entry.bytes.now first.entry.at first.entry.last second.entry.bytes.now second.entry.at second.entry.last (length list.old) }
+    ensures list_after { list.new ≡ list_next c.old first.entry.bytes.now first.entry.at first.entry.last second.entry.bytes.now second.entry.at second.entry.last list.old }
 {
     let one = c.first.look_at(first);
+    match one.stand {
+        Stand::Passed => {
+            c.first = c.first.pass(one.walker);
+            return (Turn::Went, one.next, second.at);
+        }
+        Stand::Needs => return (Turn::NeedsFirst, first.at, second.at),
+        Stand::Fed(_) | Stand::Over(_) => {}
+    }
+    // Not before: where the first is passed, this look would be made again in the next turn.
     let two = c.second.look_at(second);
     match (one.stand, two.stand) {
-        (Stand::Passed, _) => went(
-            c.first.pass(one.walker),
-            c.second,
-            c.tally,
-            one.next,
-            second.at,
-        ),
-        (Stand::Needs, _) => stand_still(c, Turn::NeedsFirst, first.at, second.at),
-        (_, Stand::Passed) => went(
-            c.first,
-            c.second.pass(two.walker),
-            c.tally,
-            first.at,
-            two.next,
-        ),
-        (_, Stand::Needs) => stand_still(c, Turn::NeedsSecond, first.at, second.at),
-        (Stand::Over(end), Stand::Over(other)) => stand_still(
-            c,
-            Turn::Over(Ends {
+        (Stand::Passed | Stand::Needs, _) => unreachable!(),
+        (_, Stand::Passed) => {
+            c.second = c.second.pass(two.walker);
+            (Turn::Went, first.at, two.next)
+        }
+        (_, Stand::Needs) => (Turn::NeedsSecond, first.at, second.at),
+        (Stand::Over(end), Stand::Over(other)) => {
+            let ends = Ends {
                 first: end,
                 second: other,
-            }),
-            first.at,
-            second.at,
-        ),
+            };
+            (Turn::Over(ends), first.at, second.at)
+        }
         (Stand::Fed(head), Stand::Over(_)) => {
             let r = first.record(head, one);
-            let tally = take_difference(list, c.tally, UNPAIRED);
-            went(judge_alone(&c.first, r), c.second, tally, r.next, second.at)
+            judge_alone(&mut c.first, r);
+            c.tally = take_difference(list, c.tally, UNPAIRED);
+            (Turn::Went, r.next, second.at)
         }
         (Stand::Over(_), Stand::Fed(head)) => {
             let r = second.record(head, two);
-            let tally = take_difference(list, c.tally, UNPAIRED);
-            went(c.first, judge_alone(&c.second, r), tally, first.at, r.next)
+            judge_alone(&mut c.second, r);
+            c.tally = take_difference(list, c.tally, UNPAIRED);
+            (Turn::Went, first.at, r.next)
         }
         (Stand::Fed(head1), Stand::Fed(head2)) => {
             let r1 = first.record(head1, one);
             let r2 = second.record(head2, two);
-            take_pair(&c, r1, r2, list)
+            take_pair(c, r1, r2, list);
+            (Turn::Went, r1.next, r2.next)
         }
+    }
+}
+
+// Makes a turn at a place of each window.
+pub fn take_turn(mut c: Comparison, first: Window, second: Window, list: &mut [u64]) -> Advance
+    ensures value { result ≡ advance_of c first.entry.bytes.now first.entry.at first.entry.last second.entry.bytes.now second.entry.at second.entry.last (length list.old) }
+    ensures list_after { list.new ≡ list_next c first.entry.bytes.now first.entry.at first.entry.last second.entry.bytes.now second.entry.at second.entry.last list.old }
+{
+    let (turn, at1, at2) = go_on(&mut c, first, second, list);
+    Advance {
+        comparison: c,
+        turn,
+        at1,
+        at2,
     }
 }

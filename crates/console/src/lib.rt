@@ -3,5 +3,6 @@
 #![tactic(auto)]
 
 pub mod arguments;
+pub mod line;
 pub mod source;
 pub mod streams;

@@ -1,6 +1,8 @@
 // Standard output and standard error, or what stands for them.
-ghost use Rattle.std.specs.Prelude.{◌≤◌, length};
+ghost use Rattle.std.specs.Prelude.{◌≤◌, length, IsTrue};
+ghost use Rattle.std.specs.Io.KnownBytes.{Appends};
 
+use std::io;
 use std::io::{Error, Stderr, Stdout, Write};
 
 #[derive(Clone, Copy, Drop)]
@@ -10,6 +12,13 @@ pub struct Streams<W, E> {
 }
 
 pub type Console = Streams<Stdout, Stderr>;
+
+// Writes to whatever has `Write`, if it can.
+pub fn offer<W: Write>(out: &mut W, text: &[u8]) -> bool
+    ensures { IsTrue result → Appends (W.contents out.old) (W.contents out.new) text.now }
+{
+    out.write_all(text).is_ok()
+}
 
 // How long the text of an error is, without the number that the library puts behind it; zeros follow.
 fn text_end(text: &[u8]) -> usize
@@ -24,7 +33,7 @@ fn text_end(text: &[u8]) -> usize
 }
 
 impl<W: Write, E: Write> Streams<W, E> {
-    ghost use Rattle.std.specs.Prelude.{◌≡◌, ◌++◌, ◌∷◌, [], ℕ, List, true, IsTrue};
+    ghost use Rattle.std.specs.Prelude.{◌≡◌, ◌++◌, ◌∷◌, [], ℕ, List, true, IsTrue, IsOk};
     ghost use Rattle.std.specs.Io.KnownBytes.{Appends};
 
     // Writes to standard error, if it can.
@@ -40,7 +49,15 @@ impl<W: Write, E: Write> Streams<W, E> {
         ensures printed { IsTrue result → Appends (W.contents self.old.out) (W.contents self.new.out) text.now }
         ensures err_kept { self.new.err ≡ self.old.err }
     {
-        self.out.write_all(text).is_ok()
+        offer(&mut self.out, text)
+    }
+
+    // Writes to standard output, or answers why it cannot.
+    pub fn write_all(&mut self, text: &[u8]) -> io::Result<()>
+        ensures printed { IsOk result → Appends (W.contents self.old.out) (W.contents self.new.out) text.now }
+        ensures err_kept { self.new.err ≡ self.old.err }
+    {
+        self.out.write_all(text)
     }
 
     // Tells what failed, as the caller names it, and why, if it can.
@@ -69,7 +86,7 @@ impl<W: Write, E: Write> Streams<W, E> {
         ensures printed { IsTrue result → Appends (W.contents self.old.out) (W.contents self.new.out) text.now }
         ensures quiet { IsTrue result → self.new.err ≡ self.old.err }
     {
-        match self.out.write_all(text) {
+        match self.write_all(text) {
             Ok(()) => true,
             Err(e) => {
                 self.fail(b"standard output", e);

@@ -119,7 +119,11 @@ one_after_other true true c f = refl
 one_after_other true false c f = absent c
 one_after_other false b c f = absent c
 
--- what an option has to pass, in the code's order
+-- what an option has to pass, one test and then all, in the code's order
+passes : (a : Bool) (f : FastOpenOption) → is_counted f && a ≡ is_counted (cond a f Absent)
+passes true f = and-true (is_counted f)
+passes false f = and-false (is_counted f)
+
 passes-all : (a b c : Bool) (f : FastOpenOption) → is_counted f && ((a && b) && c) ≡ is_counted (cond (a && (b && c)) f Absent)
 passes-all true true true f = and-true (is_counted f)
 passes-all true true false f = and-false (is_counted f)
@@ -169,6 +173,15 @@ module _ (v : View) where
             rw (lt-ltb seen v.settings.share (omega (arith, none (rw e))), lt-ltb from v.settings.share (omega (arith, some)))
         settled false e true q = rw (all (rw (e, q)))
         settled false e false q = rw (uncounted allowed q) (absent (ltb seen v.settings.share) ∙ sym (absent (ltb from v.settings.share)))
+
+    -- and as the code asks, which looks at so many slots
+    pub counted_by_share : (seen : ℕ) (read : FastOpenOption) → (slots_to_count v.settings.share pending read ≡ 0 → seen ≡ 0) → (slots_to_count v.settings.share pending read ≡ 64 → seen ≡ from)
+        → is_counted read && (limit_allows v.settings pending && ltb seen v.settings.share) ≡ is_counted (option_if (cookies_enabled v) read)
+    counted_by_share seen read none all = go (limit_allows v.settings pending) refl
+      where
+        go : (allowed : Bool) → limit_allows v.settings pending ≡ allowed → is_counted read && (allowed && ltb seen v.settings.share) ≡ is_counted (option_if (cookies_enabled v) read)
+        go true e = passes (ltb seen v.settings.share) read ∙ ap is_counted (by_share seen read read (sym (ap (λ (b : Bool). option_if b read) e)) none all)
+        go false e = rw e at (allowed_by_share read)
 
   -- its slot, and whether a fresh cookie goes with its SYN-ACK
   pub new_slot_lem : (end : ℕ) (b : List ℕ) (h : Header) (iss : ℕ) (early : Bool) (n : ℕ)

@@ -1,15 +1,15 @@
 // What a segment that was not refused does to its connection.
-ghost use Rattle.std.specs.Prelude.{◌≡◌, min, length};
+ghost use Rattle.std.specs.Prelude.{◌≡◌, min, ◌≤◌, length};
 ghost use Rattle.protocol.specs.Cookie.{found};
-ghost use Rattle.protocol.specs.Table.{new_slot};
-ghost use Rattle.decisions.specs.Parts.{is_opening, limit_allows, opened, later_event, later_slot};
+ghost use Rattle.protocol.specs.Table.{slot_count, new_slot};
+ghost use Rattle.decisions.specs.Parts.{is_opening, limit_allows, slots_to_count, opened, later_event, later_slot};
 
 use cookie::check_option;
 use protocol::outcome::Event;
-use protocol::slots::{Slot, Status};
+use protocol::slots::{SLOTS, Slot, Status};
 use protocol::state::{Keys, StoredSettings};
 use segment::header::{Header, Kind};
-use segment::options::FastOpenOption;
+use segment::options::{FastOpenOption, is_counted};
 use table::slot::{after_reset, new_slot, with_status};
 
 // Whether a segment asks for a connection.
@@ -39,6 +39,17 @@ pub fn limit_allows(g: StoredSettings, pending: u32) -> bool
     ensures { result ≡ limit_allows g pending }
 {
     g.on && pending < g.limit
+}
+
+// How many slots are looked at to count the pending of an opening's source address: none where pending, and so that number, is below the share, or where no
+// option counts; else all.
+pub fn slots_to_count(share: u32, pending: u32, fast: FastOpenOption) -> usize
+    ensures { (result ≡ slots_to_count share pending fast) × (result ≤ slot_count) }
+{
+    if pending < share || !is_counted(fast) {
+        return 0;
+    }
+    SLOTS
 }
 
 // A new connection's slot, where no option counts.

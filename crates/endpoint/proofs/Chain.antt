@@ -1,16 +1,18 @@
 -- Checks one after the other, the first checks of a call, and what follows for its address and time where it is clear. Assumes nothing.
 use Rattle.std.specs.Prelude.{Err, Ok}
-use Prim.Native.Nat.{ℕ, ◌≤◌}
+use Prim.Native.Nat.{ℕ, ◌^◌, ◌≤◌}
 use mathlib.Core.Path.{◌≡◌, refl, ap, ◌∙◌}
 use mathlib.Core.Bool.{Bool, true, false, cond, not}
 use mathlib.Core.List.{List, [], ◌∷◌, ◌++◌}
+use lib.Dec.{ltb}
 use lib.ListN.{length}
-use borrow.Author.Tests.{not-false}
+use borrow.Author.Tests.{ltb-false, not-false}
 use Rattle.segment.specs.Refusal.{refusal, Check, all_clear}
 use Rattle.segment.specs.declared.refusal.Refusal.{Refusal}
 use Rattle.segment.specs.declared.refusal.Refusal.TheVariants.{Address, Time, NotStarted}
+use Rattle.lists.proofs.Bools.{or_false}
 use Rattle.endpoint.specs.Address.{is_address}
-use Rattle.endpoint.specs.Checks.{timely, addressed}
+use Rattle.endpoint.specs.Checks.{is_untimely, timely, addressed}
 use Rattle.endpoint.specs.declared.address.Family.{Family}
 use Rattle.endpoint.proofs.Blocks.{family-short}
 use Rattle.endpoint.proofs.Clear.{every-check}
@@ -59,3 +61,7 @@ module _ (started : Bool) (untimely : Bool) where
     -- the address of a clear call has at most 16 bytes
     pub named-short : refusal (timely started untimely ++ addressed family a) ≡ all_clear → length a ≤ 16
     named-short e = family-short family a (not-false _ (every-check (timely started untimely ++ addressed family a) e).1.1.0)
+
+-- a time that is accepted is at most 2^48
+pub time-most : (clock t : ℕ) → is_untimely clock t ≡ false → t ≤ 2 ^ 48
+time-most clock t e = ltb-false (2 ^ 48) t (or_false (ltb t clock) (ltb (2 ^ 48) t) e).1

@@ -5,6 +5,7 @@
 use client::calls::{answer, connect};
 use client::outcome::{ActiveOpen, Attempt, Event as ClientEvent, event_count};
 use client::state::Memory;
+use console::streams::{Console, Streams};
 use listener::calls::{pending, segment, set_settings};
 use listener::outcome::accepted_part;
 use protocol::outcome::Event;
@@ -12,7 +13,6 @@ use protocol::state::{Listener, Settings};
 use segment::options::Codings;
 use segment::refusal::Refusal;
 use segment::write::{LONGEST_OPENING, LONGEST_SYN_ACK};
-use std::io::{Stdout, Write};
 use text::part::first;
 
 const CLIENT: [u8; 4] = [192, 0, 2, 1];
@@ -35,7 +35,7 @@ fn bytes_of(event: ClientEvent) -> Result<u32, Refusal> {
 }
 
 // The client opens a connection and offers data, the listener takes the opening, the client takes the SYN-ACK.
-fn exchange(out: &mut Stdout, ends: Ends, time: u64, port: u16) -> Result<Ends, Refusal> {
+fn exchange(streams: &mut Console, ends: Ends, time: u64, port: u16) -> Result<Ends, Refusal> {
     let mut sent = [0u8; LONGEST_OPENING];
     let open = ActiveOpen {
         source: port,
@@ -54,7 +54,7 @@ fn exchange(out: &mut Stdout, ends: Ends, time: u64, port: u16) -> Result<Ends, 
     );
     let data = bytes_of(opened.event)?;
     let opening = first(&sent, opened.written);
-    let _ = writeln!(out, "the client sends {} bytes, data {data}", opening.len());
+    streams.offer_line(format_args!("the client sends {} bytes, data {data}", opening.len()));
 
     let mut back = [0u8; LONGEST_SYN_ACK];
     let taken = segment(ends.listener, time, &CLIENT, opening, 7000, &mut back);
@@ -63,14 +63,13 @@ fn exchange(out: &mut Stdout, ends: Ends, time: u64, port: u16) -> Result<Ends, 
         Event::FastOpened(_) => accepted_part(opening, taken.event),
         _ => b"nothing",
     };
-    let _ = writeln!(out, "handed over early: {}", early.escape_ascii());
+    streams.offer_line(format_args!("handed over early: {}", early.escape_ascii()));
     let syn_ack = first(&back, taken.written);
-    let _ = writeln!(
-        out,
+    streams.offer_line(format_args!(
         "the listener sends {} bytes, pending {}",
         syn_ack.len(),
         pending(taken.listener)
-    );
+    ));
 
     let attempt = Attempt {
         source: port,
@@ -88,11 +87,10 @@ fn exchange(out: &mut Stdout, ends: Ends, time: u64, port: u16) -> Result<Ends, 
         Codings::NewOnly,
     );
     let acknowledged = bytes_of(answered.event)?;
-    let _ = writeln!(
-        out,
+    streams.offer_line(format_args!(
         "the client takes {} bytes, acknowledged {acknowledged}",
         syn_ack.len()
-    );
+    ));
     Ok(Ends {
         memory: answered.memory,
         listener: taken.listener,
@@ -101,7 +99,7 @@ fn exchange(out: &mut Stdout, ends: Ends, time: u64, port: u16) -> Result<Ends, 
 
 // Two exchanges. Here the key and the initial numbers of both ends, 1000 and 7000, are fixed; in use they have to be hard to guess. The settings are not
 // refused.
-fn run(out: &mut Stdout) -> Result<(), Refusal> {
+fn run(streams: &mut Console) -> Result<(), Refusal> {
     let client = client::calls::start(4);
     client.check?;
     let server = listener::calls::start(&SERVER, 443, &[7; 16]);
@@ -120,16 +118,19 @@ fn run(out: &mut Stdout) -> Result<(), Refusal> {
         memory: client.memory,
         listener: set.listener,
     };
-    let _ = writeln!(out, "first opening, to get a cookie");
-    let ends = exchange(out, ends, 1, 40000)?;
-    let _ = writeln!(out, "second opening, to send data early");
-    exchange(out, ends, 2, 40001)?;
+    streams.offer_line("first opening, to get a cookie");
+    let ends = exchange(streams, ends, 1, 40000)?;
+    streams.offer_line("second opening, to send data early");
+    exchange(streams, ends, 2, 40001)?;
     Ok(())
 }
 
 fn main(rt: HostRuntime) {
-    let mut out = rt.stdout();
-    if let Err(why) = run(&mut out) {
-        let _ = writeln!(out, "refused {}", u8::from(why));
+    let mut streams = Streams {
+        out: rt.stdout(),
+        err: rt.stderr(),
+    };
+    if let Err(why) = run(&mut streams) {
+        streams.offer_line(format_args!("refused {}", u8::from(why)));
     }
 }

@@ -2,12 +2,14 @@
 use Rattle.std.specs.Prelude.{Option, Result, Err, Ok, is_some}
 use Rattle.std.specs.Option.{unwrap_or}
 use Rattle.std.specs.List.{position}
-use Prim.Native.Nat.{ℕ, ◌-◌, ◌*◌, min}
+use Prim.Native.Nat.{ℕ, ◌-◌, ◌*◌, ◌<◌, min}
 use mathlib.Core.Path.{◌≡◌, refl, sym, ap, ◌∙◌}
-use mathlib.Core.Bool.{Bool, true, false, ◌&&◌, ◌||◌, false≢true}
+use mathlib.Core.Bool.{Bool, true, false, ◌&&◌, false≢true}
 use mathlib.Core.List.{List, []}
+use native.Mathlib.Omega.{arith}
 use lib.Dec.{ltb}
 use lib.ListN.{length, take, drop, set, replicate}
+use Rattle.std.proofs.lemmas.List.{take_all}
 use Rattle.lists.proofs.Elements.{set_same}
 use Rattle.segment.specs.Refusal.{refusal, Check, all_clear}
 use Rattle.segment.specs.Header.{malformed, fields_of, kind_of, option_area, payload_of}
@@ -27,10 +29,11 @@ use Rattle.segment.proofs.Malformed.{area_is, payload_is, offset_is}
 use Rattle.segment.proofs.Remarks.{syn_remarks, later_remarks}
 use Rattle.endpoint.specs.Address.{block}
 use Rattle.endpoint.specs.Checks.{is_untimely}
+use borrow.Author.Tests.{not-false}
 use Rattle.endpoint.proofs.Clear.{every-check}
 use Rattle.protocol.specs.Cookie.{cookie_under, right}
 use Rattle.protocol.specs.Cookie.{found as found_in}
-use Rattle.protocol.specs.Table.{is_free, free_slot, new_slot, holds_peer, pending_at, pending_from, scan_of}
+use Rattle.protocol.specs.Table.{is_free, is_waiting, free_slot, new_slot, holds_peer, pending_at, pending_from, scan_of}
 use Rattle.protocol.specs.Table as rules
 use Rattle.protocol.specs.Call.{Call, segment, sender}
 use Rattle.protocol.specs.View.{own_address, scan_for, view}
@@ -43,18 +46,18 @@ use Rattle.protocol.specs.declared.outcome.Event.TheVariants as events
 use Rattle.protocol.specs.declared.slots.Status.TheVariants.{SynReceived}
 use Rattle.protocol.specs.declared.slots.Slot.{Slot}
 use Rattle.table.specs.declared.scan.Scan.{Scan}
-use Rattle.protocol.proofs.Table.{from_some}
+use Rattle.protocol.proofs.Table.{from_some, not_free}
 use Rattle.protocol.proofs.Step.{wired-short, refused_with, segment_refused, segment_writes_none, segment_writes, wired-formed}
 use Rattle.table.specs.Scan.{place_of, found, slot_found, stored}
-use Rattle.table.proofs.Places.{is_place, search_is, slot_read, slot_stored}
-use Rattle.decisions.specs.Parts.{has_kind, is_opening, opening_checks, opening_check, limit_allows, option_if, opened, later_checks, later_event, later_slot}
+use Rattle.table.proofs.Places.{is_place, search_is, slot_read, slot_stored, in_table}
+use Rattle.decisions.specs.Parts.{has_kind, is_opening, opening_checks, opening_check, limit_allows, slots_to_count, option_if, opened, later_checks, later_event, later_slot}
 use Rattle.decisions.specs.declared.action.Opened.{Opened}
 use Rattle.decisions.specs.Received.{received}
 use Rattle.decisions.specs.declared.checks.OpeningKind.{OpeningKind}
 use Rattle.decisions.specs.declared.checks.OpeningKind.TheVariants.{Repeat}
 use Rattle.decisions.specs.declared.checks.OpeningKind.TheVariants as openings
 use Rattle.endpoint.proofs.Blocks.{kept}
-use Rattle.decisions.proofs.Parts.{was_read, fresh_there, fresh_cookie, counted-found, no_kind, opening-kind, was_refused, was_repeat, was_new, opening-checks, allowed_by_share, opens_plain, opens_by_option, opens_in_coding, new_slot_lem, new-fresh, new_writes, later-checks, later-event, later_slot_lem}
+use Rattle.decisions.proofs.Parts.{was_read, fresh_there, fresh_cookie, counted-found, no_kind, opening-kind, was_refused, was_repeat, was_new, opening-checks, counted_by_share, opens_plain, opens_by_option, opens_in_coding, new_slot_lem, new-fresh, new_writes, later-checks, later-event, later_slot_lem}
 
 -- a new connection, early or plain, takes the lowest free place
 new-place : (l : Listener) (t : ℕ) (scan : rules.Scan) (s : Slot) (early : Bool) (n : ℕ) → put l t scan.free s ≡ segment_after l t scan (new_event early n) s
@@ -169,13 +172,15 @@ module _ (l : Listener) (t : ℕ) (src seg : List ℕ) (iss out_len : ℕ) {h : 
                 (rw e-is (new_writes early n))
 
             module _ {allowed : Bool}
-                (el : allowed ≡ is_counted report.options.fast && (limit_allows l.settings f.pending && (ltb f.pending l.settings.share || ltb (pending_from t b l.slots) l.settings.share))) where
+                (el : allowed ≡ is_counted report.options.fast && (limit_allows l.settings f.pending && ltb (pending_from t b (take (slots_to_count l.settings.share f.pending report.options.fast) l.slots)) l.settings.share)) where
               counted : allowed ≡ is_counted option
               counted =
+                  let read = (read_options l.settings.codings (option_area seg)).fast in
+                  let end = slots_to_count l.settings.share (pending_at t l.slots) read in
                   el
                   ∙ rw (report_as, ef, eb)
-                  (allowed_by_share v {pending = pending_at t l.slots} {from = pending_from t (block src) l.slots} refl refl (from_some t (block src) l.slots)
-                  (read_options l.settings.codings (option_area seg)).fast)
+                  (counted_by_share v {pending = pending_at t l.slots} {from = pending_from t (block src) l.slots} refl refl (from_some t (block src) l.slots)
+                  (pending_from t (block src) (take end l.slots)) read (λ z. rw z refl) (λ z. rw (z, take_all 64 l.slots (omega arith)) refl))
 
               pub opened_plain : allowed ≡ false → {new : Slot} → new ≡ new_slot b h.source h.seq iss SynReceived → (cookie : List ℕ)
                   → (outcome (moved l t (stored l.slots f.free new)) events.Regular (length (syn_ack new false New cookie)) report.remarks ≡ step l this)
@@ -225,6 +230,17 @@ module _ (l : Listener) (t : ℕ) (src seg : List ℕ) (iss out_len : ℕ) {h : 
       later_refused q = segment_refused l t src seg iss out_len first (sym later_are ∙ q)
 
       module _ (clear : refusal (later_checks s h x) ≡ all_clear) where
+        -- it is a completion or a reset, and its connection waits
+        waits : (y : Kind) → refusal (later_checks s h y) ≡ all_clear → is_waiting s.status ≡ true
+        waits Ack q = not-false _ (every-check (later_checks s h Ack) q).0
+        waits Rst q = not-false _ (every-check (later_checks s h Rst) q).0
+        waits Syn q = absurd (false≢true (sym (every-check (later_checks s h Syn) q).0))
+        waits Other q = absurd (false≢true (sym (every-check (later_checks s h Other) q).0))
+
+        -- so it has its place
+        pub later_in_table : (scan_for l t (sender src seg)).place < 64
+        later_in_table = in_table l.slots full (scan_for l t (sender src seg)).place (rw peer_is at (not_free is_waiting refl s.status (waits x clear)))
+
         moves : (y : Kind) → refusal (later_checks s h y) ≡ all_clear → (z : Slot) → moved l t (stored l.slots place z) ≡ segment_after l t (scan_for l t (sender src seg)) (later_event y) z
         moves Ack q z = rw (place_is, slot_stored l.slots full (scan_for l t (sender src seg)).place z)
         moves Rst q z = rw (place_is, slot_stored l.slots full (scan_for l t (sender src seg)).place z)

@@ -4,7 +4,7 @@
 // A listener is large, and a function that takes one by value copies it. So a call changes the one that it was given, lends its table to what scans, searches or
 // counts it, and each of its ends is a `return`. An opening scans the table, and where that may matter counts the pending slots of its source address; any
 // other call that needs a connection searches it.
-ghost use Rattle.std.specs.Prelude.{Err, ◌≡◌, ◌≤◌, ◌||◌, ◌&&◌, ltb, length};
+ghost use Rattle.std.specs.Prelude.{Err, ◌≡◌, ◌≤◌, ◌&&◌, ltb, length, take};
 ghost use Rattle.lists.specs.Bytes.{overwrite};
 ghost use Rattle.segment.specs.Options.{is_counted};
 ghost use Rattle.segment.specs.Remarks.{no_remarks};
@@ -12,12 +12,12 @@ ghost use Rattle.protocol.specs.Table.{pending_from};
 ghost use Rattle.protocol.specs.Call.{Call};
 ghost use Rattle.protocol.specs.Refusals.{release_of};
 ghost use Rattle.protocol.specs.Step.{blank, fresh_listener, never_started, start_of, outcome, step, output_of, pending_number};
-ghost use Rattle.decisions.specs.Parts.{limit_allows};
+ghost use Rattle.decisions.specs.Parts.{limit_allows, slots_to_count};
 
 use crate::outcome::new_outcome;
 use cipher::expand_key;
 use decisions::action::{
-    is_opening, later_event, later_slot, limit_allows, open_by_option, open_plain,
+    is_opening, later_event, later_slot, limit_allows, open_by_option, open_plain, slots_to_count,
 };
 use decisions::checks::{
     OpeningKind, check_later, check_opening, check_output, has_kind, is_in_range, is_releasable,
@@ -161,11 +161,12 @@ fn allows(
     pending: u32,
     fast: FastOpenOption,
 ) -> bool
-    ensures { result ≡ is_counted fast && (limit_allows g pending && (ltb pending g.share || ltb (pending_from time b slots.now) g.share)) }
+    ensures { result ≡ is_counted fast && (limit_allows g pending && ltb (pending_from time b (take (slots_to_count g.share pending fast) slots.now)) g.share) }
 {
     is_counted(fast)
         && limit_allows(g, pending)
-        && (pending < g.share || count_pending_from(slots, time, b) < g.share)
+        && count_pending_from(&slots[..slots_to_count(g.share, pending, fast)], time, b)
+            < g.share as usize
 }
 
 // Takes a segment of any kind from a source address. `iss` is our initial number, should it open a connection; an output of under 36 bytes is
@@ -246,45 +247,49 @@ pub fn segment(
     new_outcome(l, opened.event, written, remarks)
 }
 
-// Sets the settings.
+// Sets the settings. Its two ends are values of one `match`: with a `return` for each, the listener is copied twice more.
 pub fn set_settings(mut l: Listener, time: u64, g: Settings) -> Outcome
     ensures { result ≡ step l (Call.settings time g) }
 {
-    if let Err(why) = check_time(l.local.started, l.clock, time) {
-        return refused(l, why);
+    match check_time(l.local.started, l.clock, time) {
+        Err(why) => refused(l, why),
+        Ok(()) => {
+            if !is_in_range(g) {
+                return refused(l, Refusal::Range);
+            }
+            l.settings = StoredSettings {
+                on: g.on,
+                limit: g.limit,
+                early_room: g.early_room,
+                hold: g.hold,
+                mss: g.mss as u16,
+                codings: g.codings,
+                share: g.share,
+            };
+            l.clock = time;
+            done(l)
+        }
     }
-    if !is_in_range(g) {
-        return refused(l, Refusal::Range);
-    }
-    l.settings = StoredSettings {
-        on: g.on,
-        limit: g.limit,
-        early_room: g.early_room,
-        hold: g.hold,
-        mss: g.mss as u16,
-        codings: g.codings,
-        share: g.share,
-    };
-    l.clock = time;
-    done(l)
 }
 
-// Sets the key, of 16 bytes; the present one becomes the previous one.
+// Sets the key, of 16 bytes; the present one becomes the previous one. Its two ends are values of one `match`, as those of `set_settings`.
 pub fn set_key(mut l: Listener, time: u64, key: &[u8]) -> Outcome
     ensures { result ≡ step l (Call.key time key.now) }
 {
-    if let Err(why) = check_time(l.local.started, l.clock, time) {
-        return refused(l, why);
+    match check_time(l.local.started, l.clock, time) {
+        Err(why) => refused(l, why),
+        Ok(()) => {
+            if key.len() != 16 {
+                return refused(l, Refusal::Range);
+            }
+            l.keys = Keys {
+                present: expand_key(key_of(key)),
+                previous: Some(l.keys.present),
+            };
+            l.clock = time;
+            done(l)
+        }
     }
-    if key.len() != 16 {
-        return refused(l, Refusal::Range);
-    }
-    l.keys = Keys {
-        present: expand_key(key_of(key)),
-        previous: Some(l.keys.present),
-    };
-    l.clock = time;
-    done(l)
 }
 
 // Frees a connection's slot, by its name, if its status is right for it.

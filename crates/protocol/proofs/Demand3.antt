@@ -1,5 +1,5 @@
 -- Demand 3: the listener and the journal agree after every list of calls. Assumes nothing.
-use Rattle.std.specs.Prelude.{Err, Ok, Some, option_map}
+use Rattle.std.specs.Prelude.{Err, Ok, Option, None, Some, option_map}
 use Prim.Native.Nat.{ℕ, zero, suc, ◌+◌, ◌≤◌, ◌<◌, min}
 use mathlib.Core.Path.{◌≡◌, refl, sym, ap, ap₂, ◌∙◌, subst}
 use mathlib.Core.Bool.{Bool, true, false, cond, not, ◌&&◌, ◌||◌, true≢false, false≢true, and_assoc, and-eq-true_iff}
@@ -33,7 +33,7 @@ use Rattle.protocol.specs.View.{known, scan_for, view, view_of}
 use Rattle.protocol.specs.Refusals.{kind_checks, checks, call_check}
 use Rattle.protocol.specs.Step as steps
 use Rattle.protocol.specs.Step.{fresh_listener, start_checks, started_by, start_of, new_event, opening_event, segment_event, done_event, held_until, slot_after, moved, put, segment_after, freed, stored_settings, after, outcome_of, step, pending_number}
-use Rattle.protocol.specs.Journal.{Mark, mark_plain, mark_early, mark_open, mark_held, Entry, Journal, fresh_journal, pending_of, pending_of_address, named, has, kept, only, removed, completed, reset_mark, was_reset, with, amended, has_right, opens_early, new_mark, opened, at_time, segment_noted, noted, feed, Decision, new_decision, opening_decision, segment_decision, done_decision, journal_decision}
+use Rattle.protocol.specs.Journal.{Mark, mark_plain, mark_early, mark_open, mark_held, Entry, Journal, fresh_journal, pending_of, pending_of_address, named, has, kept, only, removed, completed, reset_mark, was_reset, with, amended, was_right, has_right, opens_early, new_mark, opened, at_time, segment_noted, noted, feed, Decision, new_decision, opening_decision, segment_decision, done_decision, journal_decision}
 use Rattle.protocol.specs.Demand3.{segment_of, listener_decision, listener_after, listener_decisions, numbered, journal_after, journal_decisions, address_pending, Demand3}
 use Rattle.protocol.specs.declared.slots.Status.{Status}
 use Rattle.protocol.specs.declared.slots.Status.TheVariants.{Free, SynReceived, SynReceivedEarly, ResetHeld, Established}
@@ -149,13 +149,18 @@ module _ (l : Listener) (j : Journal) (t : ℕ) (a : Agrees l j) (forward : l.cl
   -- a cookie is right under the round keys exactly if it is under the journal's keys
   right-same : (src seg : List ℕ) → right l.keys (block src) (carried_by j.settings.codings seg) ≡ has_right (at_time t j) src seg
   unfolding right has_right
-  right-same src seg = ap₂ ◌||◌ (ap (λ k. right_under k b o) a.present) (ap (λ k. right_before k b o) a.previous)
+  right-same src seg = ap₂ ◌||◌ (ap (λ k. right_under k b o) a.present) (ap (λ k. right_before k b o) a.previous ∙ before j.previous)
     where
       b : List ℕ
       b = block src
 
       o : Carried
       o = carried_by j.settings.codings seg
+
+      -- the listener's rule on the round keys is the journal's on the key
+      before : (p : Option (List ℕ)) → right_before (option_map key_expansion p) b o ≡ was_right p b o
+      before None = refl
+      before (Some k) = refl
 
   early-same : (src seg : List ℕ) → length src ≡ size l.local.family → steps.is_early (view l t (sender src seg)) (block src) seg ≡ opens_early (at_time t j) src seg
   unfolding steps.is_early opens_early

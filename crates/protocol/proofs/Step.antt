@@ -251,6 +251,9 @@ module _ (h : LocalEndpoint) (untimely : Bool) (a : List ℕ) where
   pub wired-short : (seg : List ℕ) (out_len : ℕ) → refusal (wire_checks h untimely a seg out_len) ≡ all_clear → length a ≤ 16
   wired-short seg out_len e = family-short h.family a (not-false _ (every-check (wire_checks h untimely a seg out_len) e).1.1.0)
 
+  pub wired-timely : (seg : List ℕ) (out_len : ℕ) → refusal (wire_checks h untimely a seg out_len) ≡ all_clear → untimely ≡ false
+  wired-timely seg out_len e = (every-check (wire_checks h untimely a seg out_len) e).1.0
+
   pub wired-formed : (seg : List ℕ) (out_len : ℕ) → refusal (wire_checks h untimely a seg out_len) ≡ all_clear → malformed seg ≡ false
   wired-formed seg out_len e = (every-check (wire_checks h untimely a seg out_len) e).1.1.1.1.0
 

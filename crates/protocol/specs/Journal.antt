@@ -1,7 +1,7 @@
 -- Document 01, "Demand 3's book", and document 02, Items 4 and 8: a record of the calls that is kept apart from the listener. It is fed the start's arguments, each call's and the number
 -- returned, and nothing from the slots.
 -- Assumes nothing.
-use Rattle.std.specs.Prelude.{ℕ, zero, suc, ◌+◌, min, Option, None, Some, option_map, List, [], ◌∷◌, Bool, true, false, cond, ◌&&◌, ◌||◌, ltb, length, take}
+use Rattle.std.specs.Prelude.{ℕ, zero, suc, ◌+◌, min, Option, None, Some, List, [], ◌∷◌, Bool, true, false, cond, ◌&&◌, ◌||◌, ltb, length, take}
 use Rattle.cipher.specs.KeyExpansion.{key_expansion}
 use Rattle.segment.specs.Header.{fields_of, payload_of, kind_of}
 use Rattle.segment.specs.declared.options.Codings.TheVariants.{NewOnly}
@@ -10,7 +10,7 @@ use Rattle.segment.specs.declared.header.Kind.TheVariants.{Syn, Rst, Ack, Other}
 use Rattle.lists.specs.Bytes.{same_bytes}
 use Rattle.lists.specs.Lists.{tally, amend}
 use Rattle.endpoint.specs.Address.{Peer, same_peer, block}
-use Rattle.protocol.specs.Cookie.{carried_by, right_under, right_before}
+use Rattle.protocol.specs.Cookie.{Carried, carried_by, right_under}
 use Rattle.protocol.specs.Call.{fresh_mss, fresh_share, Call, segment, settings, key, abandon, resend, close, sender, time_of, Verdict, early, plain, repeat, no_verdict}
 use Rattle.protocol.specs.declared.state.Settings.{Settings}
 
@@ -110,11 +110,16 @@ amended j p rule = with j (amend (only p rule) j.entries)
 
 -- Openings
 
+-- under the key before the present one, if there is one: the journal's own rule
+abbrev pub was_right : Option (List ℕ) → List ℕ → Carried → Bool
+was_right None b o = false
+was_right (Some k) b o = right_under (key_expansion k) b o
+
 -- the cookie, of the option that counts under the settings in force, is the one for the address under the present key, or under the previous one
 unfoldable pub has_right : Journal → List ℕ → List ℕ → Bool
 has_right j src seg =
     let o = carried_by (settings_of j).codings seg in
-    right_under (key_expansion j.present) (block src) o || right_before (option_map key_expansion j.previous) (block src) o
+    right_under (key_expansion j.present) (block src) o || was_right j.previous (block src) o
 
 -- the terms for an early opening: on, below the limit so far, its address below the share so far, a right cookie
 unfoldable pub opens_early : Journal → List ℕ → List ℕ → Bool

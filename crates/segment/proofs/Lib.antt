@@ -6,6 +6,7 @@ pub mod Exchange
 pub mod NumberOf
 pub mod Sixteen
 pub mod Older
+pub mod Chunks
 pub mod Folded
 pub mod OneFamily
 pub mod ReadBack

@@ -148,6 +148,13 @@ module _ (g : Codings) (area : List ℕ) where
       (λ found p i _ u. record { mss = u.mss; fast = u.fast; same = u.same }) nothing no_places
       (record { mss = λ h. absurd (omega (arith, h)); fast = none-fits g area; same = sym (none_found g area) })
 
+  -- an MSS, and a Fast Open option that counts, stand at the places
+  pub places-mss : MssFits area (places_in g area).mss_at
+  places-mss = all_found.mss
+
+  pub places_fast : FastFits g area (places_in g area).remarks.used
+  places_fast = all_found.fast
+
   pub places-found : found_at g area (places_in g area) ≡ read_options g area
   places-found = sym all_found.same
 

@@ -1,5 +1,5 @@
 -- The laws of the remarks: what each option adds to them, that the place of the used option agrees with what was found, and the samples. Assumes nothing.
-use Rattle.std.proofs.Common.{◌≡◌, ℕ, ◌+◌, ◌-◌, ◌≤◌, Bool, true, false, cond, eqb, List, ◌∷◌, length, sym, refl, ap, ◌∙◌, arith, le-leb}
+use Rattle.std.proofs.Common.{◌≡◌, ℕ, ◌+◌, ◌-◌, ◌≤◌, Bool, true, false, cond, eqb, List, ◌∷◌, length, sym, refl, ap, ◌∙◌, arith, le-leb, true≢false}
 use mathlib.Core.Bool.{and-false}
 use Rattle.lists.proofs.Bools.{or_false, chosen}
 use Rattle.segment.specs.Bytes.{byte_at}
@@ -28,7 +28,34 @@ module _ (g : Codings) (area : List ℕ) (i len : ℕ) where
       let t = or_false (is_fast_open_in g New area i len) (is_fast_open_in g Older area i len) e in
       rw (t.0, t.1)
 
-  -- so an option that is none changes nothing, and one that counts is the used one or another
+  -- so it changes nothing of what was found
+  pub other_option : (f : FastOpenOption) → is_fast_open g area i len ≡ false → first_fast_open f (fast_open_option g area i len) ≡ f
+  other_option Absent e = not_fast_open e
+  other_option (Request c) e = refl
+  other_option (Cookie c at n) e = refl
+
+  -- nor does one that is skipped; and where one is used already it stays
+  pub skipped_option : (f : FastOpenOption) → is_counted (fast_open_option g area i len) ≡ false → first_fast_open f (fast_open_option g area i len) ≡ f
+  skipped_option f e = go f (fast_open_option g area i len) e
+    where
+      go : (f x : FastOpenOption) → is_counted x ≡ false → first_fast_open f x ≡ f
+      go Absent Absent e = refl
+      go Absent (Request c) e = absurd (true≢false e)
+      go Absent (Cookie c at n) e = absurd (true≢false e)
+      go (Request c) x e = refl
+      go (Cookie c at n) x e = refl
+
+  pub used_option : (f : FastOpenOption) (used : ℕ) → Agrees f used → eqb used 0 ≡ false → first_fast_open f (fast_open_option g area i len) ≡ f
+  used_option Absent used a e = absurd (true≢false (rw a at e))
+  used_option (Request c) used a e = refl
+  used_option (Cookie c at n) used a e = refl
+
+  pub new_option : (f : FastOpenOption) → Agrees f 0 → first_fast_open f (fast_open_option g area i len) ≡ fast_open_option g area i len
+  new_option Absent a = refl
+  new_option (Request c) a = absurd (omega arith)
+  new_option (Cookie c at n) a = absurd (omega arith)
+
+  -- an option that is none is not remarked, and one that counts is the used one or another
   pub other_remark : (r : Remarks) → is_fast_open g area i len ≡ false → with_remark g area r i len ≡ r
   unfolding with_remark is_skipped
   other_remark r e = rw (not_fast_open e, e, and-false (eqb r.used 0))
@@ -37,6 +64,11 @@ module _ (g : Codings) (area : List ℕ) (i len : ℕ) where
       → with_remark g area r i len ≡ record { skipped = r.skipped; used = first_at r.used true i; broken = r.broken }
   unfolding with_remark is_skipped
   counted_remark r c = rw (c, and-false (is_fast_open g area i len))
+
+  pub skipped_remark : (r : Remarks) → is_fast_open g area i len ≡ true → is_counted (fast_open_option g area i len) ≡ false
+      → with_remark g area r i len ≡ record { skipped = r.skipped + 1; used = r.used; broken = r.broken }
+  unfolding with_remark is_skipped
+  skipped_remark r e c = rw (e, c, and-false (eqb r.used 0))
 
   -- an option is skipped once
   pub skipped-most : (r : Remarks) → (with_remark g area r i len).skipped ≤ r.skipped + 1
@@ -59,7 +91,7 @@ module _ (g : Codings) (area : List ℕ) (i len : ℕ) where
           (λ _. chosen Here (is_cookie_length (len - prefix_length c)) _ _ (λ _. (omega arith, omega arith)) (λ _. refl))
 
   -- and the first that was found stays
-  next_agrees : (f : FastOpenOption) (used : ℕ) → Agrees f used → Agrees (first_fast_open f (fast_open_option g area i len)) (first_at used (is_counted (fast_open_option g area i len)) i)
+  pub next_agrees : (f : FastOpenOption) (used : ℕ) → Agrees f used → Agrees (first_fast_open f (fast_open_option g area i len)) (first_at used (is_counted (fast_open_option g area i len)) i)
   next_agrees Absent used e = rw e here_agrees
   next_agrees (Request c) used e = rw (place-stays used (is_counted (fast_open_option g area i len)) i e) e
   next_agrees (Cookie c at n) used e = rw (place-stays used (is_counted (fast_open_option g area i len)) i e.0) e

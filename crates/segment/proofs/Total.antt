@@ -46,6 +46,17 @@ total_pass (suc n) s i h =
     let g : i + 2 * n + 2 ≡ i + 2 * suc n = omega arith in
     omega (arith, e, rw g at t)
 
+-- a pass over bytes that stand at another place too adds what it adds there
+pub pass_copied : (n : ℕ) (w s : List ℕ) (j i : ℕ) → ((b : ℕ) → b < 16 → byte_at w b ≡ byte_at s (j + b)) → i + 2 * n ≤ 16 → pass_total n w i ≡ pass_total n s (j + i)
+unfolding pass_total
+pass_copied zero w s j i f h = refl
+pass_copied (suc n) w s j i f h =
+    let a : j + (i + 2 * n) ≡ j + i + 2 * n = omega arith in
+    let b : j + (i + 2 * n + 1) ≡ j + i + 2 * n + 1 = omega arith in
+    let low = f (i + 2 * n) (omega arith) in
+    let high = f (i + 2 * n + 1) (omega arith) in
+    omega (arith, pass_copied n w s j i f (omega arith), rw a at low, rw b at high)
+
 -- the total of bytes has 16 bits a word
 pub total_bound : (s : List ℕ) → Bytes s → total s ≤ 65535 * ((length s + 1) / 2)
 unfolding total

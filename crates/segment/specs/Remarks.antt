@@ -3,7 +3,7 @@
 use Rattle.std.specs.Prelude.{ℕ, ◌+◌, Bool, cond, not, ◌&&◌, ◌||◌, List, ◌==◌}
 use Rattle.segment.specs.Bytes.{byte_at}
 use Rattle.segment.specs.Header.{option_area, has, SYN}
-use Rattle.segment.specs.Options.{is_fast_open_in, fast_open_option, is_counted, read_from, read_options, options_of}
+use Rattle.segment.specs.Options.{is_fast_open_in, fast_open_option, is_counted, with_option, read_from, read_options, options_of}
 use Rattle.segment.specs.declared.options.Coding.TheVariants.{New, Older}
 use Rattle.segment.specs.declared.options.Codings.{Codings}
 use Rattle.segment.specs.declared.options.Remarks.{Remarks}
@@ -45,7 +45,10 @@ remarks_in g area = read_from (with_remark g area) broken_at 0 0 area no_remarks
 unfoldable pub remarks_of : Codings → List ℕ → Remarks
 remarks_of g seg = cond (has (byte_at seg 13) SYN) (remarks_in g (option_area seg)) no_remarks
 
--- The reader's report, of an area and of a segment
+-- The reader's report: so far, and the option of len bytes at i; of an area; and of a segment
+abbrev pub report_with : Codings → List ℕ → Report → ℕ → ℕ → Report
+report_with g area r i len = record { options = with_option g area r.options i len; remarks = with_remark g area r.remarks i len }
+
 abbrev pub report_in : Codings → List ℕ → Report
 report_in g area = record { options = read_options g area; remarks = remarks_in g area }
 

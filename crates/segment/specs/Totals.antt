@@ -2,6 +2,7 @@
 -- little-endian machine reads them (RFC 1071, 2: deferred carries, byte order independence). Assumes nothing.
 use Rattle.std.specs.Prelude.{ℕ, zero, suc, ◌+◌, ◌-◌, ◌*◌, ◌/◌, ◌%◌, List, [], ◌∷◌}
 use Rattle.segment.specs.Bytes.{word, byte_at}
+use Rattle.segment.specs.declared.checksum.Lanes.{Lanes}
 
 -- a word with its two bytes swapped, and so the word at i
 unfoldable pub swapped : ℕ → ℕ
@@ -24,6 +25,10 @@ most_total = 32768 * 65535
 unfoldable pub pass_total : ℕ → List ℕ → ℕ → ℕ
 pass_total zero s i = 0
 pass_total (suc n) s i = pass_total n s i + swapped_at s (i + 2 * n)
+
+-- what the lanes come to together
+abbrev pub lanes_total : Lanes → ℕ
+lanes_total l = l.a + l.b + l.c + l.d
 
 -- the word that a total comes to once its carries are added at the low end: 0 for 0 alone, else 1 to 65535
 unfoldable pub folded : ℕ → ℕ

@@ -2,8 +2,9 @@
 ghost use Rattle.std.specs.Prelude.{◌≡◌, ◌+◌, ◌-◌, ◌<◌, ◌≤◌, ◌&&◌, length, nat_le, IfSome};
 ghost use Rattle.std.specs.Option.{is_some};
 ghost use Rattle.segment.specs.Bytes.{byte_at};
-ghost use Rattle.segment.specs.Options.{mss_option, is_cookie_length, cookie_at, is_in, counts_coding, codings_of, fast_open_option, is_counted, first_mss, with_option, cookie_bytes, coding_of};
-ghost use Rattle.segment.specs.Remarks.{no_remarks, is_fast_open, with_remark, report_in, report_of};
+ghost use Rattle.segment.specs.Options.{mss_option, is_cookie_length, cookie_at, is_in, counts_coding, codings_of, fast_open_option, is_counted, first_mss, cookie_bytes, coding_of};
+ghost use Rattle.segment.specs.Remarks.{no_remarks, is_fast_open, report_with, report_in, report_of};
+ghost use Rattle.segment.specs.RemarkSamples.{Agrees};
 
 use crate::header::{has_syn, option_area, part};
 use crate::number::word_at;
@@ -197,64 +198,63 @@ fn option_at(area: &[u8], at: usize) -> Option<Found<'_>>
     }
 }
 
-// What is found so far, with an option besides: the first of each that counts is used.
-#[tactic(auto, unfolding(crate::specs::Options::with_option))]
-fn with_option(found: Options, codings: Codings, option: Found<'_>) -> Options
-    ensures { result ≡ with_option codings option.entry.area.now found option.entry.at option.entry.len }
+// The segment size that is used, with an option besides: it is looked for until one is found.
+fn with_mss(found: Option<u16>, option: Found<'_>) -> Option<u16>
+    ensures { result ≡ first_mss found (mss_option option.entry.area.now option.entry.at option.entry.len) }
 {
-    let fast = if is_counted(found.fast) {
-        found.fast
-    } else {
-        option.fast_open(codings)
-    };
-    Options {
-        mss: first_mss(found.mss, option.mss()),
-        fast,
+    if found.is_some() {
+        return found;
     }
+    first_mss(found, option.mss())
 }
 
-// The remarks so far, with an option besides.
-#[tactic(auto, using(crate::proofs::Remarks::other_remark), unfolding(crate::specs::Remarks::with_remark, crate::specs::Remarks::is_skipped))]
-fn with_remark(mut remarks: Remarks, codings: Codings, option: Found<'_>) -> Remarks
-    requires { remarks.skipped ≤ option.at }
-    ensures { result ≡ with_remark codings option.entry.area.now remarks option.entry.at option.entry.len }
+// What is reported so far, with an option besides: the first of each that counts is used.
+#[tactic(auto, using(crate::proofs::Remarks::other_option, crate::proofs::Remarks::other_remark))]
+fn with_option(mut found: Report, codings: Codings, option: Found<'_>) -> Report
+    requires skipped { found.remarks.skipped ≤ option.at }
+    requires agrees { Agrees found.options.fast found.remarks.used }
+    ensures { result ≡ report_with codings option.entry.area.now found option.entry.at option.entry.len }
 {
+    found.options.mss = with_mss(found.options.mss, option);
     if option.is_fast_open(codings) {
-        if !is_counted(option.fast_open(codings)) {
-            remarks.skipped += 1;
-        } else if remarks.used == 0 {
-            remarks.used = option.at + 1;
+        let fast = option.fast_open(codings);
+        if !is_counted(fast) {
+            found.remarks.skipped += 1;
+        } else if found.remarks.used == 0 {
+            found.remarks.used = option.at + 1;
+            found.options.fast = fast;
         }
     }
-    remarks
+    found
 }
 
 // Reads an option area. Where a length does not fit, the reading breaks off and what was found before stands.
 pub fn read_options(codings: Codings, area: &[u8]) -> Report
     ensures { result ≡ report_in codings area.now }
 {
-    let mut options = Options {
-        mss: None,
-        fast: FastOpenOption::Absent,
+    let mut found = Report {
+        options: Options {
+            mss: None,
+            fast: FastOpenOption::Absent,
+        },
+        remarks: no_remarks(),
     };
-    let mut remarks = no_remarks();
     let mut at = 0;
     while at < area.len() {
         match area[at] {
-            0 => return Report { options, remarks },
+            0 => return found,
             1 => at += 1,
             _ => {
                 let Some(option) = option_at(area, at) else {
-                    remarks.broken = at + 1;
-                    return Report { options, remarks };
+                    found.remarks.broken = at + 1;
+                    return found;
                 };
-                options = with_option(options, codings, option);
-                remarks = with_remark(remarks, codings, option);
+                found = with_option(found, codings, option);
                 at += option.len;
             }
         }
     }
-    Report { options, remarks }
+    found
 }
 
 // Reads the options of a segment: without SYN no Fast Open option counts and nothing is remarked, and a malformed segment has no options.

@@ -3,10 +3,11 @@ use Rattle.std.specs.Prelude.{None, Some, is_some}
 use Rattle.std.specs.List.{position, position_or_len}
 use Rattle.std.proofs.lemmas.List.Recursion.{is_position_or_len}
 use Rattle.std.proofs.Math.Seq.{set_out}
-use Rattle.std.proofs.Common.{◌≡◌, ℕ, suc, ◌+◌, Bool, true, false, cond, ltb, List, length, get_or, set, sym, refl, arith, ltb-false}
+use Rattle.std.proofs.Common.{◌≡◌, ℕ, suc, ◌+◌, ◌<◌, Bool, true, false, cond, ltb, List, length, get_or, set, sym, refl, arith, ltb-false, ltb-true}
+use mathlib.Core.Bool.{false≢true}
 use lib.ListN.{get_or-eq_default}
 use Rattle.lists.specs.Lists.{first_index}
-use Rattle.protocol.specs.Table.{free_slot, holds_peer, scan_of}
+use Rattle.protocol.specs.Table.{is_free, free_slot, holds_peer, scan_of}
 use Rattle.protocol.specs.declared.slots.Slot.{Slot}
 use Rattle.table.specs.Scan.{place_of, slot_found, stored}
 
@@ -48,3 +49,13 @@ module _ (slots : List Slot) (full : length slots ≡ 64) where
         go : (b : Bool) → ltb i 64 ≡ b → stored slots (cond b (Some i) None) s ≡ set slots i s
         go true e = refl
         go false e = sym (set_out slots i s (omega (arith, full, ltb-false i 64 e)))
+
+    -- and a slot that is not free stands in it
+    pub in_table : is_free (get_or slots i free_slot).status ≡ false → i < 64
+    in_table e = go (ltb i 64) refl
+      where
+        go : (b : Bool) → ltb i 64 ≡ b → i < 64
+        go true q = ltb-true i 64 q
+        go false q =
+            let past : get_or slots i free_slot ≡ free_slot = get_or-eq_default slots free_slot (omega (arith, full, ltb-false i 64 q)) in
+            absurd (false≢true (sym (rw past at e)))

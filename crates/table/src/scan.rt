@@ -136,9 +136,9 @@ pub fn count_pending(slots: &[Slot; SLOTS], time: u64) -> u32
     slots.iter().filter(|s| is_pending(time, s.status)).count() as u32
 }
 
-// How many slots of one address, by its block, are pending.
-pub fn count_pending_from(slots: &[Slot; SLOTS], time: u64, b: [u8; 16]) -> u32
+// How many slots of one address, by its block, are pending: of the whole table, or of a part of it.
+pub fn count_pending_from(slots: &[Slot], time: u64, b: [u8; 16]) -> usize
     ensures { result ≡ pending_from time b slots.now }
 {
-    slots.iter().filter(|s| pends_from(time, b, **s)).count() as u32
+    slots.iter().filter(|s| pends_from(time, b, **s)).count()
 }

@@ -5,6 +5,7 @@ use mathlib.Core.Bool.{Bool, true, false, cond}
 use mathlib.Core.List.{List, [], ◌∷◌, ◌++◌, append-nil}
 use native.Mathlib.Nat.{not-suc-le-zero}
 use native.Mathlib.Omega.{arith}
+use Rattle.std.proofs.Common.{length-drop}
 use lib.Dec.{eqb, ltb}
 use lib.ListN.{length, take, drop}
 use lib.Seq.{take_all, drop-length, drop-drop}
@@ -33,6 +34,10 @@ module _ (n from : ℕ) (input left : List ℕ) (size all : ℕ) (feed : Option 
       let q : feed_at (drop from input) < length (drop from input) = omega (arith, feed_is, rw l at k) in
       let t : ltb (feed_at (drop from input)) (length (drop from input)) ≡ true = lt-ltb _ _ q in
       rw t (cc feed_is)
+
+-- the place after the line feed lies in the input
+pub in_input : (from : ℕ) (input left : List ℕ) (size : ℕ) → left ≡ drop from input → size < length left → from + size + 1 ≤ length input
+in_input from input left size l h = omega (arith, length-drop from input, rw l at h)
 
 -- ---- a step loses no byte and takes none twice: what was offered is what the line got, its line feed, and what is left
 

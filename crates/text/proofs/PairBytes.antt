@@ -9,12 +9,13 @@ use native.Mathlib.Omega.{arith}
 use lib.ListN.{length, take, drop, get_or, set}
 use lib.Seq.{take_all, length-take-le, take-suc, drop-cons, append_snoc, set_at}
 use lib.Dec.{leb-zero}
-use borrow.Author.Tests.{lt-ltb, le-leb, lt-leb, eq-eqb}
+use borrow.Author.Tests.{ltb-true, lt-ltb, le-leb, lt-leb, eq-eqb}
 use Rattle.lists.specs.Bytes.{overwrite}
 use Rattle.lists.specs.Lists.{every}
 use Rattle.std.specs.Prelude.{Option, Some, None, unwrap_or}
 use Rattle.text.specs.ByteString.{is_dash, nibble, is_hex_digit, is_hex, pair_bytes, bytes_of, is_readable, bytes_in, bytes_read}
 use Rattle.lists.proofs.Bools.{and_true}
+use Rattle.lists.proofs.Places.{each_passes}
 use Rattle.std.specs.Simd.{first_chunks}
 
 pub half : (s : List ℕ) → length (pair_bytes s) ≡ length s / 2
@@ -46,6 +47,10 @@ pair_digits (a ∷ b ∷ s) e (suc i) h =
     let k : length (a ∷ b ∷ s) / 2 ≡ suc (length s / 2) = omega arith in
     let both = and_true (is_hex_digit a) _ e in
     rw k (pair_digits s (and_true (is_hex_digit b) _ both.1).1 i (le_of_suc-le-suc h))
+
+-- a digit counts less than 16
+pub below_sixteen : (s : List ℕ) → every is_hex_digit s ≡ true → (i : ℕ) → i < length s → nibble (get_or s i 0) < 16
+below_sixteen s e i h = ltb-true _ _ (each_passes is_hex_digit s e i 0 h)
 
 -- what the code reads of a digit
 abbrev pub digit_read : ℕ → Option ℕ

@@ -126,7 +126,7 @@ pub ruleset puts = (put_put, at_after, out_after, same_reference, put_nothing, p
 -- ---- one put: past the end; of as much as there is room for, where the room is lent and comes back as `last`
 
 -- what one put comes to: the place n and the buffer now, from a place and a buffer before
-abbrev Put : List ℕ → ℕ → List ℕ → ℕ → List ℕ → Type 0
+abbrev pub Put : List ℕ → ℕ → List ℕ → ℕ → List ℕ → Type 0
 Put o at s n out = (n ≡ place_after at (length s) (length o)) × (out ≡ laid at s o)
 
 -- as a text
@@ -160,3 +160,25 @@ module _ (out src : List ℕ) (at : ℕ) where
       let x : put_mid at m out last ≡ take at out ++ (s ++ drop (at + length s) out) =
       copied out s last at h (rw (take_all (length s) s (omega arith)) (rw (l, r) at e)) in
       (omega arith, x ∙ rw (f.1, f.0, ← append_assoc) (sym (laid_as at src out (min (length src) m) refl)))
+
+  -- the front of a text that is longer than the room
+  pub put_front : (last : List ℕ) → at ≤ length out → length out - at < length src
+      → last ≡ overwrite (take (length out - at) src) (take (length out - at) (drop at out))
+      → Put out at src (length (put_mid at (length out - at) out last)) (put_mid at (length out - at) out last)
+  unfolding place_after
+  put_front last h k e =
+      let m = length out - at in
+      let l : length (take m src) ≡ m = length-take-le m src (omega arith) in
+      let x : put_mid at m out last ≡ laid at src out =
+      copied out (take m src) last at h (rw (take_all (length (take m src)) (take m src) (omega arith)) e) ∙ rw (l, ← append_assoc) (sym (laid_as at src out m (omega arith))) in
+      (ap length x ∙ length-laid at src out ∙ omega arith, x)
+
+  -- a text that fits
+  pub put_whole : (last : List ℕ) → at ≤ length out → length src ≤ length out - at
+      → last ≡ overwrite src (take (length out - at) (drop at out))
+      → Put out at src (at + length src) (put_mid at (length out - at) out last)
+  unfolding place_after
+  put_whole last h k e =
+      let a : laid at src out ≡ take at out ++ (src ++ drop (at + length src) out) =
+      laid_as at src out (length src) (omega arith) ∙ rw (take_all (length src) src (omega arith), append_assoc) in
+      (omega arith, copied out src last at h (rw (take_all (length src) src (omega arith)) e) ∙ sym a)

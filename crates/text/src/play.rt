@@ -7,6 +7,7 @@ use crate::line::{LONGEST, Reply, is_silent};
 use crate::part::first;
 use crate::put::Text;
 use crate::reader::{INPUT, new_reader, read_if_used_up, take_next};
+use console::streams::offer;
 use std::io::{Read, Write};
 
 // A buffer of so many bytes takes the text of any line.
@@ -91,7 +92,7 @@ pub fn play_lines<P: Play, R: Read, W: Write>(
         if reader.complete {
             let mut text = [0u8; TEXT];
             let played = play_line::<P>(state, first(&line, reader.len), reader.len, &mut text);
-            let _ = out.write_all(first(&text, played.len));
+            offer(out, first(&text, played.len));
             state = played.state;
         }
     }

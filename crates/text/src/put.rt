@@ -22,6 +22,12 @@ impl Text<'_> {
         if self.at > self.out.len() {
             return;
         }
+        let room = self.out.len() - self.at;
+        if src.len() > room {
+            self.at += copy(&src[..room], &mut self.out[self.at..]);
+            return;
+        }
+        // the length of what fits may be known where it is put
         self.at += copy(src, &mut self.out[self.at..]);
     }
 

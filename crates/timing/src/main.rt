@@ -10,7 +10,6 @@ mod records;
 use calls::Task;
 use console::arguments::argument;
 use console::streams::{Console, Streams};
-use std::io::Write;
 use text::number::read_number;
 
 fn print_usage(streams: &mut Console) {
@@ -83,7 +82,7 @@ fn main(rt: HostRuntime) {
     let work = &word[..n];
     match task_asked(&rt, work).and_then(|task| digest_of(work, &task)) {
         Some(digest) => {
-            let _ = writeln!(streams.out, "{digest}");
+            streams.offer_line(digest);
         }
         None => print_usage(&mut streams),
     }

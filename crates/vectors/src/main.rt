@@ -6,7 +6,6 @@
 
 use cipher::{encrypt, expand_key};
 use console::streams::{Console, Streams};
-use std::io::Write;
 
 // The key of A.1, B and F.1.1.
 const KEY: u128 = 0x2b7e151628aed2a6abf7158809cf4f3c;
@@ -16,14 +15,14 @@ fn print_schedule(streams: &mut Console, key: u128) {
     let (words, _) = schedule.as_chunks();
     for (i, word) in words.iter().enumerate() {
         let word = u32::from_be_bytes(*word);
-        let _ = writeln!(streams.out, "FIPS 197 A.1 w[{i}] {word:08x}");
+        streams.offer_line(format_args!("FIPS 197 A.1 w[{i}] {word:08x}"));
     }
 }
 
 fn print_encrypted(streams: &mut Console, name: &str, key: u128, plaintext: u128) {
     let round_keys = expand_key(key.to_be_bytes());
     let ciphertext = u128::from_be_bytes(encrypt(round_keys, plaintext.to_be_bytes()));
-    let _ = writeln!(streams.out, "{name} {ciphertext:032x}");
+    streams.offer_line(format_args!("{name} {ciphertext:032x}"));
 }
 
 fn main(rt: HostRuntime) {

@@ -1,42 +1,37 @@
--- A word more, an odd last byte, or none.
-use Rattle.std.proofs.Common.{◌≡◌, ℕ, zero, suc, ◌+◌, ◌*◌, ◌/◌, ◌<◌, List, [], length, take, drop, get_or, ap, add-zero, arith}
-use Rattle.std.proofs.lemmas.List.{get_or-drop, get_or-take}
-use Rattle.std.proofs.lemmas.Grind.{common_steps}
+-- Both halves of a pass take from what is left to add what they add.
+use Rattle.std.proofs.Common.{◌≡◌, ℕ, ◌+◌, ◌*◌, ◌/◌, ◌<◌, List, [], length, drop, get_or, arith}
 use Rattle.std.specs.Simd.{first_chunks}
-use Rattle.segment.specs.Totals.{total}
-use Rattle.segment.proofs.Total.{total_two, total-last, total-none}
+use Rattle.segment.specs.Totals.{total, pass_total}
+use Rattle.segment.proofs.Chunks.{chunk_byte}
+use Rattle.segment.proofs.Total.{total_pass, pass_copied}
 use Rattle.segment.proofs.checksum.total_of.Goals as goal
 
-chunk_at : (n k i : ℕ) (s : List ℕ) → i < k → get_or (first_chunks n k s) i [] ≡ take n (drop (i * n) s)
-chunk_at n zero i s h = absurd (omega arith)
-chunk_at n (suc k) zero s h = search (arith, common_steps)
-chunk_at n (suc k) (suc i) s h = grind (arith, common_steps, chunk_at n k i (drop n s))
+one_pass : (s : List ℕ) (ws : List (List ℕ)) (k : ℕ) → ws ≡ first_chunks 16 (length s / 16) s → k < length s / 16
+    → pass_total 4 (get_or ws k []) 0 + pass_total 4 (get_or ws k []) 8 + total (drop (16 * (k + 1)) s) ≡ total (drop (16 * k) s)
+one_pass s ws k e h =
+    let copied : (b : ℕ) → b < 16 → get_or (get_or ws k []) b 0 ≡ get_or s (16 * k + b) 0 = λ b m.
+    let j : k * 16 ≡ 16 * k = omega arith in
+    rw (e, ← j) (chunk_byte 16 (length s / 16) s k b h m) in
+    let a = pass_copied 4 (get_or ws k []) s (16 * k) 0 copied (omega arith) in
+    let b = pass_copied 4 (get_or ws k []) s (16 * k) 8 copied (omega arith) in
+    let p = total_pass 4 s (16 * k + 0) (omega arith) in
+    let q = total_pass 4 s (16 * k + 8) (omega arith) in
+    let x : 16 * k + 0 ≡ 16 * k = omega arith in
+    let y : 16 * k + 0 + 2 * 4 ≡ 16 * k + 8 = omega arith in
+    let z : 16 * k + 8 + 2 * 4 ≡ 16 * (k + 1) = omega arith in
+    omega (arith, a, b, rw (y, x) at p, rw z at q, rw x at a)
 
-byte_of : (s : List ℕ) (i b : ℕ) → i < length s / 2 → b < 2 → get_or (get_or (first_chunks 2 (length s / 2) s) i []) b 0 ≡ get_or s (2 * i + b) 0
-byte_of s i b h k =
-    let e : i * 2 + b ≡ 2 * i + b = omega arith in
-    rw (chunk_at 2 (length s / 2) i s h, get_or-take 2 (drop (i * 2) s) b 0 k, get_or-drop (i * 2) s b 0) (ap (λ (j : ℕ). get_or s j 0) e)
+pub add_words-first-requires : goal.add_words-first-requires
+add_words-first-requires c =
+    let o = one_pass c.args.s.now c.as_chunks.result.0.now c.loop-pass.pass-index c.as_chunks.ensures.front (omega arith) in
+    (omega arith, omega (arith, o, c.loop-pass.invariant, c.requires))
 
-one_more : (s : List ℕ) (ws : List (List ℕ)) (i : ℕ) → ws ≡ first_chunks 2 (length s / 2) s → i < length s / 2
-    → get_or (get_or ws i []) 0 0 + 256 * get_or (get_or ws i []) 1 0 + total (drop (2 * (i + 1)) s) ≡ total (drop (2 * i) s)
-one_more s ws i e h =
-    let g : 2 * (i + 1) ≡ 2 * i + 2 = omega arith in
-    rw (e, byte_of s i 0 h (omega arith), byte_of s i 1 h (omega arith), g, add-zero (2 * i)) (omega (arith, total_two s (2 * i) (omega arith)))
+pub add_words-second-requires : goal.add_words-second-requires
+add_words-second-requires c =
+    let o = one_pass c.args.s.now c.as_chunks.result.0.now c.loop-pass.pass-index c.as_chunks.ensures.front (omega arith) in
+    (omega arith, omega (arith, o, c.loop-pass.invariant, c.requires))
 
-pub loop-word-preserved : goal.loop-word-preserved
-loop-word-preserved c =
-    let a = c.as_chunks in
-    omega (arith, one_more c.args.s.now a.result.0.now c.loop-word.word-index a.ensures.front (omega arith), c.loop-word.invariant)
-
-pub returns-then-odd-eq1 : goal.returns-then-odd-eq1
-returns-then-odd-eq1 c =
-    let s = c.args.s.now in
-    let a = c.as_chunks in
-    let i = c.loop-word.word-index in
-    let e : i ≡ length s / 2 = omega arith in
-    let l = total-last s (2 * i) (omega arith) in
-    let b : get_or a.result.1.now 0 0 ≡ get_or s (2 * i) 0 = rw (a.ensures.back, get_or-drop (length s / 2 * 2) s 0 0) (ap (λ (j : ℕ). get_or s j 0) (omega arith)) in
-    omega (arith, c.loop-word.invariant, l, b)
-
-pub returns-else-odd-eq1 : goal.returns-else-odd-eq1
-returns-else-odd-eq1 c = omega (arith, total-none c.args.s.now (2 * c.loop-word.word-index) (omega arith), c.loop-word.invariant)
+pub loop-pass-preserved : goal.loop-pass-preserved
+loop-pass-preserved c =
+    let o = one_pass c.args.s.now c.as_chunks.result.0.now c.loop-pass.pass-index c.as_chunks.ensures.front (omega arith) in
+    omega (arith, o, c.loop-pass.invariant, c.add_words-first.ensures, c.add_words-second.ensures)
