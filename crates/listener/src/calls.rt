@@ -2,8 +2,8 @@
 // and leaves the output alone.
 //
 // A listener is large, and a function that takes one by value copies it. So a call changes the one that it was given, lends its table to what scans, searches or
-// counts it, and each of its ends is a `return`. An opening scans the table, and where that may matter counts the pending slots of its source address; any
-// other call that needs a connection searches it.
+// counts it, and each of its ends is a `return`, or where no table is read an arm of one `match`. An opening scans the table, and where that may matter counts
+// the pending slots of its source address; any other call that needs a connection searches it.
 ghost use Rattle.std.specs.Prelude.{Err, ◌≡◌, ◌≤◌, ◌&&◌, ltb, length, take};
 ghost use Rattle.lists.specs.Bytes.{overwrite};
 ghost use Rattle.segment.specs.Options.{is_counted};
